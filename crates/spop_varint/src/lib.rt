@@ -1,0 +1,12 @@
+//! Numbers as SPOP spells them: one to ten bytes, the small ones in one (SPOE.txt, 3.1).
+#![tactic(auto)]
+
+mod law;
+mod read;
+#[cfg(test)]
+mod tests;
+mod write;
+
+pub use law::one_spelling;
+pub use read::{Varint, read_varint};
+pub use write::write_varint;

@@ -1,0 +1,32 @@
+ghost use Rattle.std.specs.Prelude.{◌≡◌, OnErr, OnOk};
+ghost use Rattle.spop_varint.specs.Varint.{AppendsVarint, Spells};
+
+use arrayvec::ArrayVec;
+use waf_plain::{Bytes, NoMemory};
+
+/// Appends the spelling of a number, which has ten bytes at most. After an `Err` the bytes are as
+/// before.
+pub fn write_varint(value: u64, out: &mut Bytes) -> Result<(), NoMemory>
+    ensures ok { OnOk result (AppendsVarint out.old out.new value) }
+    ensures err { OnErr result (out.new ≡ out.old) }
+{
+    out.append(spelling(value).as_slice())
+}
+
+fn spelling(value: u64) -> ArrayVec<u8, 10>
+    ensures { Spells result.items value }
+{
+    let mut out = ArrayVec::new();
+    if value < 240 {
+        out.push(value as u8);
+        return out;
+    }
+    out.push((value % 16 + 240) as u8);
+    let mut rest = (value - 240) / 16;
+    while rest >= 128 {
+        out.push((rest % 128 + 128) as u8);
+        rest = (rest - 128) / 128;
+    }
+    out.push(rest as u8);
+    out
+}
