@@ -1,10 +1,12 @@
-ghost use Rattle.std.specs.Prelude.{◌≡◌, ◌++◌, List, ◌≤◌, ℕ, length};
+ghost use Rattle.std.specs.Prelude.{◌≡◌, ◌++◌, List, ◌≤◌, ◌<◌, ◌^◌, ℕ, length};
 ghost use Rattle.spop_varint.specs.Varint.{Spells};
+ghost use Rattle.spop_varint.specs.Writing.{spelling};
 
 /// A law, with nothing to run: each number has one spelling, no spelling begins another, and none has
 /// more than ten bytes. So what was written is read again, whatever follows it.
 pub fn one_spelling()
     ensures apart { (a b x y : List ℕ) (m n : ℕ) → Spells a m → Spells b n → a ++ x ≡ b ++ y → (a ≡ b) × (m ≡ n) }
     ensures unique { (a b : List ℕ) (n : ℕ) → Spells a n → Spells b n → a ≡ b }
+    ensures spelled { (n : ℕ) → n < 2 ^ 64 → Spells (spelling n) n }
     ensures short { (a : List ℕ) (n : ℕ) → Spells a n → length a ≤ 10 }
 {}

@@ -1,5 +1,6 @@
-ghost use Rattle.std.specs.Prelude.{◌≡◌, OnErr, OnOk};
+ghost use Rattle.std.specs.Prelude.{◌≡◌, ◌++◌, OnErr, OnOk};
 ghost use Rattle.spop_varint.specs.Varint.{AppendsVarint, Spells};
+ghost use Rattle.spop_varint.specs.Writing.{spelling};
 
 use arrayvec::ArrayVec;
 use waf_plain::{Bytes, NoMemory};
@@ -9,11 +10,12 @@ use waf_plain::{Bytes, NoMemory};
 pub fn write_varint(value: u64, out: &mut Bytes) -> Result<(), NoMemory>
     ensures ok { OnOk result (AppendsVarint out.old out.new value) }
     ensures err { OnErr result (out.new ≡ out.old) }
+    ensures exact { OnOk result (out.new ≡ out.old ++ spelling value) }
 {
-    out.append(spelling(value).as_slice())
+    out.append(spell(value).as_slice())
 }
 
-fn spelling(value: u64) -> ArrayVec<u8, 10>
+fn spell(value: u64) -> ArrayVec<u8, 10>
     ensures { Spells result.items value }
 {
     let mut out = ArrayVec::new();

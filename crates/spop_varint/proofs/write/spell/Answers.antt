@@ -1,6 +1,6 @@
 use Rattle.std.proofs.Common.{◌≡◌, ◌+◌, ◌≤◌, length, arith, ◌∙◌, ap, length-append}
 use Rattle.spop_varint.proofs.Tails.{eight, spell_more, room_more}
-use Rattle.spop_varint.proofs.write.spelling.Goals as goal
+use Rattle.spop_varint.proofs.write.spell.Goals as goal
 
 pub loop-rest-preserved : goal.loop-rest-preserved
 loop-rest-preserved c =

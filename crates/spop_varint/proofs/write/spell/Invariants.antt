@@ -1,6 +1,6 @@
 use Rattle.std.proofs.Common.{◌-◌, ◌≡◌, ◌≤◌, ◌*◌, ◌^◌, List, ℕ, ◌++◌, length}
 use Rattle.spop_varint.specs.Varint.{Spells, IsTail, weighed}
-use Rattle.spop_varint.proofs.write.spelling.Given as goal
+use Rattle.spop_varint.proofs.write.spell.Given as goal
 
 -- whatever stands for the rest completes the number
 abbrev pub invariant-loop-rest : goal.invariant-loop-rest
