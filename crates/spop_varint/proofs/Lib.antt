@@ -1,3 +1,4 @@
 pub mod Tails
 pub mod Laws
 pub mod Spelling
+pub mod Splits

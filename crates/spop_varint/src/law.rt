@@ -1,4 +1,5 @@
-ghost use Rattle.std.specs.Prelude.{◌≡◌, ◌++◌, List, ◌≤◌, ◌<◌, ◌^◌, ℕ, length};
+ghost use Rattle.std.specs.Prelude.{All, ◌≡◌, ◌++◌, List, ◌≤◌, ◌<◌, ◌^◌, ℕ, length, Some};
+ghost use Rattle.spop_varint.specs.Reading.{split_number};
 ghost use Rattle.spop_varint.specs.Varint.{Spells};
 ghost use Rattle.spop_varint.specs.Writing.{spelling};
 
@@ -9,4 +10,12 @@ pub fn one_spelling()
     ensures unique { (a b : List ℕ) (n : ℕ) → Spells a n → Spells b n → a ≡ b }
     ensures spelled { (n : ℕ) → n < 2 ^ 64 → Spells (spelling n) n }
     ensures short { (a : List ℕ) (n : ℕ) → Spells a n → length a ≤ 10 }
+{}
+
+/// A law, with nothing to run: the number at the front, as a function on lists, is what its spelling
+/// says, whatever follows it.
+pub fn one_reading()
+    ensures again { (bytes rest : List ℕ) (n : ℕ) → Spells bytes n → split_number (bytes ++ rest) ≡ Some (n, rest) }
+    ensures spelled { (bytes rest : List ℕ) (n : ℕ) → All (λ b. b < 256) bytes → split_number bytes ≡ Some (n, rest)
+        → (front : List ℕ) × Spells front n × (bytes ≡ front ++ rest) }
 {}

@@ -7,6 +7,6 @@ mod read;
 mod tests;
 mod write;
 
-pub use law::one_spelling;
+pub use law::{one_reading, one_spelling};
 pub use read::{Varint, read_varint};
 pub use write::write_varint;
