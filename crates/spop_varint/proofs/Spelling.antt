@@ -3,6 +3,7 @@ use Rattle.std.proofs.Common.{◌≡◌, inl, inr, ℕ, zero, suc, ◌+◌, ◌-
 use Rattle.std.proofs.lemmas.Bool.{lt-ltb, le-ltb, cases_lt}
 use Rattle.spop_varint.specs.Varint.{weighed, IsTail, Spells}
 use Rattle.spop_varint.specs.Writing.{tail_of, spelling}
+use Rattle.spop_varint.proofs.Laws.{unique}
 use Rattle.spop_varint.proofs.Tails.{first_and_tail, rest_split, tail_more}
 
 -- a tail that stands for so much, the first of its bytes times 2 ^ e
@@ -35,3 +36,11 @@ spelled v fits = elim (cases_lt v 240) [
       let is : v ≡ v % 16 + 240 + weighed 4 (tail_of 9 ((v - 240) / 16)) = omega (arith, tail.1, first) in
       rw (le-ltb v 240 first) (first_and_tail (v % 16 + 240) (tail_of 9 ((v - 240) / 16)) v (omega arith) (omega arith) tail.0 is fits)
 ]
+
+fits : (bytes : List ℕ) (v : ℕ) → Spells bytes v → v < 2 ^ 64
+fits [] v s = absurd s
+fits (a ∷ []) v s = omega (arith, s.0, s.1)
+fits (a ∷ b ∷ bs) v s = s.4
+
+pub spelling_is : (bytes : List ℕ) (v : ℕ) → Spells bytes v → bytes ≡ spelling v
+spelling_is bytes v s = unique bytes (spelling v) v s (spelled v (fits bytes v s))

@@ -9,6 +9,7 @@ pub fn one_spelling()
     ensures apart { (a b x y : List ℕ) (m n : ℕ) → Spells a m → Spells b n → a ++ x ≡ b ++ y → (a ≡ b) × (m ≡ n) }
     ensures unique { (a b : List ℕ) (n : ℕ) → Spells a n → Spells b n → a ≡ b }
     ensures spelled { (n : ℕ) → n < 2 ^ 64 → Spells (spelling n) n }
+    ensures written { (a : List ℕ) (n : ℕ) → Spells a n → a ≡ spelling n }
     ensures short { (a : List ℕ) (n : ℕ) → Spells a n → length a ≤ 10 }
 {}
 

@@ -8,5 +8,5 @@ mod tests;
 mod write;
 
 pub use law::{one_reading, one_spelling};
-pub use read::{Varint, read_varint};
+pub use read::{Varint, read_varint, split_varint};
 pub use write::write_varint;

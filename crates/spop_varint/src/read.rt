@@ -11,7 +11,8 @@ pub enum Varint {
     TooLarge,
 }
 
-ghost use Rattle.spop_varint.specs.Reading.{number_at, tail_at};
+ghost use Rattle.std.specs.Option.{option_map};
+ghost use Rattle.spop_varint.specs.Reading.{number_at, split_number, tail_at};
 ghost use Rattle.spop_varint.specs.Varint.{IsRead, IsShort, IsTooLarge, Spells};
 
 /// Reads the number at the front; bytes may follow it. It takes no memory.
@@ -24,6 +25,17 @@ pub fn read_varint(input: &[u8]) -> Varint
     ensures exact { result ≡ number_at input.now }
 {
     number(input)
+}
+
+/// The number at the front and the bytes after it; `None` where the bytes don't begin with a whole
+/// spelling. It takes no memory.
+pub fn split_varint(bytes: &[u8]) -> Option<(u64, &[u8])>
+    ensures { option_map (λ x. (x.0, x.1.now)) result ≡ split_number bytes.now }
+{
+    match read_varint(bytes) {
+        Varint::Read { value, used } => Some((value, bytes.split_at(used as usize).1)),
+        Varint::Short | Varint::TooLarge => None,
+    }
 }
 
 fn number(input: &[u8]) -> Varint

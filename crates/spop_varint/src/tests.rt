@@ -1,4 +1,4 @@
-use crate::{Varint, read_varint, write_varint};
+use crate::{Varint, read_varint, split_varint, write_varint};
 use std::test::Fail;
 use waf_plain::Bytes;
 
@@ -65,4 +65,9 @@ fn fronts_of_bytes(rt: HostRuntime) {
     ] {
         assert_eq!(rt; read_varint(input), wanted);
     }
+    assert_eq!(rt;
+        split_varint(b"\xf0\x00\x01"),
+        Some((240, b"\x01".as_slice()))
+    );
+    assert_eq!(rt; split_varint(b"\xf0"), None);
 }
