@@ -1,0 +1,6 @@
+pub mod Steps
+pub mod Numbers
+pub mod Types
+pub mod Items
+pub mod Laws
+pub mod Written

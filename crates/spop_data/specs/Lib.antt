@@ -1,0 +1,5 @@
+pub mod Lists
+pub mod Data
+pub mod Reading
+pub mod Writing
+pub mod Answer

@@ -1,0 +1,51 @@
+-- The bytes that are written for a value, as functions: of its spellings the one without idle flags.
+use Rattle.std.specs.Prelude.{◌≡◌, ℕ, ◌^◌, ◌<◌, List, [], ◌∷◌, ◌++◌, length, if◌then◌else◌, FitsSigned}
+use Rattle.std.specs.Int.{cast_unsigned, w32, w64}
+use Rattle.spop_varint.specs.Writing.{spelling}
+use Rattle.spop_data.specs.declared.value.Data as values
+use Rattle.spop_data.specs.declared.value.Data.TheVariants as types
+use Rattle.spop_data.specs.declared.value.Pair.{Pair}
+
+-- a number
+unfoldable pub number_bytes : ℕ → List ℕ
+number_bytes n = spelling n
+
+-- a text behind its length
+abbrev pub counted : List ℕ → List ℕ
+counted text = number_bytes (length text) ++ text
+
+abbrev pub data_bytes : values.Data → List ℕ
+data_bytes types.Null = 0 ∷ []
+data_bytes (types.Bool b) = (if b then 17 else 1) ∷ []
+data_bytes (types.Int32 z) = 2 ∷ number_bytes (cast_unsigned w64 z)
+data_bytes (types.Uint32 n) = 3 ∷ number_bytes n
+data_bytes (types.Int64 z) = 4 ∷ number_bytes (cast_unsigned w64 z)
+data_bytes (types.Uint64 n) = 5 ∷ number_bytes n
+data_bytes (types.Ipv4 address) = 6 ∷ address
+data_bytes (types.Ipv6 address) = 7 ∷ address
+data_bytes (types.Text text) = 8 ∷ counted text
+data_bytes (types.Binary text) = 9 ∷ counted text
+
+abbrev pub pair_bytes : Pair → List ℕ
+pair_bytes p = counted p.name ++ data_bytes p.value
+
+-- a value that a program can hold: in the range of its type, and no longer than memory
+abbrev pub IsData : values.Data → Type 0
+IsData types.Null = Unit {0}
+IsData (types.Bool b) = Unit {0}
+IsData (types.Int32 z) = FitsSigned w32 z
+IsData (types.Uint32 n) = n < 2 ^ 32
+IsData (types.Int64 z) = FitsSigned w64 z
+IsData (types.Uint64 n) = n < 2 ^ 64
+IsData (types.Ipv4 address) = length address ≡ 4
+IsData (types.Ipv6 address) = length address ≡ 16
+IsData (types.Text text) = length text < 2 ^ 64
+IsData (types.Binary text) = length text < 2 ^ 64
+
+pub record IsPair (p : Pair) : Type 0 where
+  pub name : length p.name < 2 ^ 64
+  pub value : IsData p.value
+
+-- bytes were added at the end, or none
+abbrev pub Grows : List ℕ → List ℕ → Type 0
+Grows old new = (more : List ℕ) × (new ≡ old ++ more)
