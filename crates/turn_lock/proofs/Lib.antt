@@ -1,0 +1,5 @@
+pub mod Serving
+pub mod Steps
+pub mod Lists
+pub mod Sharing
+pub mod Draws
