@@ -1,24 +1,24 @@
--- The lock's first pass, passes that are cut and put together, and the last one.
-use Rattle.std.proofs.Common.{◌≡◌, ◌≢◌, ℕ, zero, suc, ◌+◌, ◌-◌, ◌%◌, ◌<◌, ◌≤◌, ◌⊎◌, List, [], ◌∷◌, ◌++◌, Bool, append-nil, append_assoc, map, length, set, slice_index, Option, Some, None, nat_lt, refl, sym, ap, ◌∙◌, subst, inl, inr, ⊎_elim, arith, length-append}
-use mathlib.Core.Logic.{dite}
+-- Passes that are split and joined keep the rule.
+use Rattle.std.proofs.Common.{◌≡◌, ◌≢◌, ℕ, ◌+◌, ◌-◌, ◌%◌, ◌<◌, ◌≤◌, ◌⊎◌, List, [], ◌∷◌, ◌++◌, map, length, set, Option, Some, nat_lt, refl, sym, ap, ◌∙◌, subst, inl, inr, ⊎_elim, arith}
 use mathlib.Core.List.{map-append}
 use mathlib.Core.Option as maybe
-use native.Mathlib.Decide.{ℕ_discrete}
 use lib.ListN.{get_elem?}
-use Rattle.atomic_table.specs.Table.{State, Me, Step, step, keeps, opening, Allows, Splits, Final, Seen}
+use Rattle.atomic_table.specs.Table.{State, Me, step, keeps, Allows, Splits}
 use Rattle.atomic_table.proofs.Lists.{at_map, at_snoc, at_longer, set_else}
 use Rattle.turn_lock.specs.declared.history.Entry.{Entry}
-use Rattle.turn_lock.specs.declared.view.Stage.TheVariants.{Idle, Waiting, Serving}
+use Rattle.turn_lock.specs.declared.view.Stage.TheVariants.{Idle, Serving}
 use Rattle.turn_lock.specs.declared.view.View.{View}
 use Rattle.turn_lock.specs.declared.slot.Held.{Held}
-use Rattle.turn_lock.specs.History.{left_by, Legal, Begins, Interleaves, total, longer}
-use Rattle.turn_lock.specs.Marks.{selected, mark_at, merged}
-use Rattle.turn_lock.specs.View.{all_shares, waits, HasTurn, waiting, share_in, owns_at, own_in, first_view, split_old, split_new, joined, spent_view, JoinedParts}
+use Rattle.turn_lock.specs.History.{left_by, Legal, Interleaves, total, longer}
+use Rattle.turn_lock.specs.Marks.{selected, mark_at}
+use Rattle.turn_lock.specs.View.{all_shares, waits, HasTurn, waiting, share_in, owns_at, own_in, split_old, split_new, joined, spent_view, JoinedParts}
 use Rattle.turn_lock.specs.Lock.{Pass, own_of, Joins}
-use Rattle.turn_lock.specs.Rule.{ViewFits, TurnsDiffer, NoneServes, IsOut, InTurns}
+use Rattle.turn_lock.specs.Rule.{ViewFits, InTurns}
 use Rattle.turn_lock.specs.Plays.{Confirmed}
-use Rattle.turn_lock.proofs.Lists.{total_set, total_snoc, total_two, map_unseen, map_changed, begins_itself, begins_le, mark_past, mark_merged, length_merged, covers, one_begins, interleaves, set_at, same_place, selected_all, legal_front, interleaves_longer}
-use Rattle.turn_lock.proofs.Steps.{each_set, differ_set, out_set, owns_all, same_state, one_some}
+use Rattle.turn_lock.proofs.Histories.{begins_le, interleaves_longer, legal_front, longer_begins, longer_le, one_begins}
+use Rattle.turn_lock.proofs.Lists.{map_changed, map_unseen, total_set, total_snoc, total_two}
+use Rattle.turn_lock.proofs.Marks.{interleaves, length_merged, mark_merged, mark_past, selected_all}
+use Rattle.turn_lock.proofs.Views.{differ_set, each_set, one_some, out_set, owns_all, same_state}
 
 module _ {O C R : Type 0} (may : O → C → Type 0) (allows : O → C → R → Type 0) (after : O → C → R → O) (kept : O → List (List (Entry C R)) → Type 0) (start : O) where
   abbrev V : Type 0
@@ -32,34 +32,6 @@ module _ {O C R : Type 0} (may : O → C → Type 0) (allows : O → C → R →
 
   abbrev Rule : State S V → Type 0
   Rule = InTurns may allows after kept start
-
-  pub open_keeps : (x : Held O C R) → x.object ≡ start → kept start ([] ∷ []) → Rule (opening (0 ∷ 0 ∷ []) (Some x ∷ []) (first_view start))
-  open_keeps x is first = record {
-    log = [];
-    two = refl;
-    drawn = refl;
-    serving = refl;
-    legal = tt;
-    each = λ j v at. subst (ViewFits start [] 0) (only (first_view start) j v at) (record {
-      same = λ _. refl;
-      begins = ([], refl);
-      within = omega arith;
-      turn = λ t h. absurd h;
-      served = λ h. cc;
-      live = omega arith;
-      spent = λ _. refl;
-      noted = record { prefix = inl ([], refl); disjoint = λ p. omega arith; left_within = omega arith; right_within = omega arith };
-    });
-    apart = λ i j t v u ne p q a b. absurd (subst (λ (z : V). HasTurn 0 z.stage t) (sym (only (first_view start) i v p)) a);
-    shares = refl;
-    owned = λ p h. absurd (omega arith);
-    content = inl ((x, refl, is), λ j v at. subst (λ (z : V). z.stage ≢ Serving) (only (first_view start) j v at) (λ e. cc));
-    lists = first;
-  }
-    where
-      only : (w : V) (j : ℕ) (v : V) → get_elem? (w ∷ []) j ≡ maybe.some v → w ≡ v
-      only w zero v at = maybe.some-injective w v at
-      only w (suc j) v at = absurd (maybe.some-ne-none v (sym at))
 
   pub split_keeps : (kept_new : (o : O) (lists : List (List (Entry C R))) → kept o lists → kept o (lists ++ [] ∷ []))
       → (id : ℕ) (v : V) → v.stage ≡ Idle → 1 < v.share → Splits Rule id v (split_old v) (split_new v)
@@ -96,13 +68,6 @@ module _ {O C R : Type 0} (may : O → C → Type 0) (allows : O → C → R →
         lists = subst (kept (left_by after start r.log)) (sym (map-append (own_in r.log) views (b ∷ []) ∙ ap (λ l. l ++ [] ∷ []) (map_unseen (own_in r.log) s.views id v a at refl)))
             (kept_new (left_by after start r.log) (map (own_in r.log) s.views) r.lists);
       }
-
-  longer_begins : (xs ys log : List (Entry C R)) → Begins xs log → Begins ys log → (b : Bool) → Begins (Rattle.std.proofs.Common.cond b ys xs) log
-  longer_begins xs ys log h k Rattle.std.proofs.Common.true = k
-  longer_begins xs ys log h k Rattle.std.proofs.Common.false = h
-
-  longer_le : (xs ys : List (Entry C R)) → (length xs ≤ length (longer xs ys)) × (length ys ≤ length (longer xs ys))
-  longer_le xs ys = grind (arith, Rattle.std.proofs.Common.tests)
 
   pub join_keeps : (kept_join : (o : O) (lists : List (List (Entry C R))) (i j : ℕ) (xs ys zs : List (Entry C R))
       → kept o lists → get_elem? lists i ≡ maybe.some xs → j ≢ i → get_elem? lists j ≡ maybe.some ys → Interleaves xs ys zs → kept o (set (set lists i zs) j []))
@@ -168,25 +133,6 @@ module _ {O C R : Type 0} (may : O → C → Type 0) (allows : O → C → R →
       λ all p inside. owns_all may allows after kept start s r id me.0 at all p (let le = begins_le me.0.seen r.log f.begins in omega arith),
     ),
   )
-
-  -- where the only pass has no turn, the object is at home, and is what its history leaves
-  pub alone_at_home : (s : State S V) (r : Rule s) (id : ℕ) (v : V) → get_elem? s.views id ≡ maybe.some v → v.stage ≡ Idle → v.share ≡ all_shares
-      → ((x : Held O C R) × (s.homes ≡ maybe.some (Some x) ∷ []) × (x.object ≡ left_by after start v.seen)) × Legal may allows after start v.seen × (selected v.own v.seen ≡ v.seen)
-  alone_at_home s r id v at idle all =
-      let f = r.each id v at in let owns = owns_all may allows after kept start s r id v at all in let le = begins_le v.seen r.log f.begins in let cover = covers v.own (length r.log) owns in let within = f.within in
-      let whole : r.log ≡ v.seen = f.begins.1 ∙ (ap (λ l. v.seen ++ l) (nothing f.begins.0 (let q = ap length f.begins.1 in let p = length-append v.seen f.begins.0 in omega arith)) ∙ append-nil v.seen) in (
-        ⊎_elim (λ h. (h.0.0, h.0.1, h.0.2 ∙ ap (left_by after start) whole))
-            (λ h. absurd (dite (ℕ_discrete h.1.0 id)
-            (λ e. let k : Idle ≡ Serving = sym idle ∙ (ap (λ (z : V). z.stage) (same_place s.views id h.1.0 v h.1.1 (sym e) at h.1.2) ∙ h.1.3) in cc)
-            (λ ne. let q = total_two share_in s.views id h.1.0 v h.1.1 (λ e. ne (sym e)) at h.1.2 in let old = r.shares in let live = (r.each h.1.0 h.1.1 h.1.2).live in let one : waits h.1.1.stage ≡ 1 = ap waits h.1.3 in omega arith)))
-            r.content,
-        subst (Legal may allows after start) whole r.legal,
-        selected_all v.own v.seen (λ p inside. owns p (omega arith)),
-      )
-    where
-      nothing : {A : Type 0} (xs : List A) → length xs ≡ 0 → xs ≡ []
-      nothing [] e = refl
-      nothing (x ∷ xs) e = absurd (omega arith)
 
 module _ {O C R : Type 0} (may : O → C → Type 0) (allows : O → C → R → Type 0) (after : O → C → R → O) where
   -- what a join and the load behind it told

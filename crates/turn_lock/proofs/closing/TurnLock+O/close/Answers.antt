@@ -1,7 +1,7 @@
 use Rattle.std.proofs.Common.{◌≡◌, List, [], ◌∷◌, None, Some, sym, ap, ◌∙◌, subst, unwrap_or}
 use mathlib.Core.Option.{some, some-injective}
 use lib.ListN.{get_elem?}
-use Rattle.turn_lock.proofs.Sharing.{alone_at_home}
+use Rattle.turn_lock.proofs.FirstLast.{alone_at_home}
 use Rattle.turn_lock.proofs.closing.TurnLock+O.close.Goals as goal
 
 pub unreachable-requires : goal.unreachable-requires

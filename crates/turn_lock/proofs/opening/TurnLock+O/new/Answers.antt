@@ -3,7 +3,7 @@ use Rattle.atomic_table.specs.Table.{opening}
 use Rattle.turn_lock.specs.declared.slot.Held.{Held}
 use Rattle.turn_lock.specs.Rule.{InTurns}
 use Rattle.turn_lock.specs.View.{first_view}
-use Rattle.turn_lock.proofs.Sharing.{open_keeps}
+use Rattle.turn_lock.proofs.FirstLast.{open_keeps}
 use Rattle.turn_lock.proofs.opening.TurnLock+O.new.Goals as goal
 
 pub new-requires : goal.new-requires
