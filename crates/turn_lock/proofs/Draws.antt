@@ -1,5 +1,5 @@
 -- For the tests: how often a number stands in what histories answer.
-use Rattle.std.proofs.Common.{◌≡◌, ℕ, ◌+◌, ◌<◌, ◌≤◌, ◌⊎◌, if◌then◌else◌, List, [], ◌∷◌, ◌++◌, Option, Some, None, ap, ◌∙◌, ⊎_elim, arith, tests}
+use Rattle.std.proofs.Common.{◌≡◌, ℕ, ◌+◌, List, [], ◌∷◌, ◌++◌, Option, Some, None, ap, ⊎_elim, arith, tests}
 use Rattle.turn_lock.specs.declared.history.Entry.{Entry}
 use Rattle.turn_lock.specs.History.{entry, Interleaves}
 use Rattle.turn_lock.specs.Numbers.{Answers, moved, LegalDraws, next_after, is_number, times, drawn, once_below}

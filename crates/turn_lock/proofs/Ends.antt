@@ -1,5 +1,5 @@
 -- The end of a turn keeps the rule.
-use Rattle.std.proofs.Common.{◌≡◌, ◌≢◌, ℕ, ◌+◌, ◌-◌, ◌%◌, ◌^◌, ◌<◌, ◌≤◌, ◌⊎◌, List, [], ◌∷◌, ◌++◌, append-nil, map, length, set, get_or, slice_set, slice_index, Option, Some, refl, sym, ap, ◌∙◌, subst, subst₂, inl, ⊎_elim, arith, length-append, length-set, get_or-set_other, get_or-set_same, unwrap_or}
+use Rattle.std.proofs.Common.{◌≡◌, ◌≢◌, ℕ, ◌+◌, ◌%◌, ◌^◌, ◌≤◌, List, [], ◌∷◌, ◌++◌, append-nil, map, length, set, slice_set, slice_index, Option, Some, refl, sym, ap, ◌∙◌, subst, subst₂, inl, ⊎_elim, arith, length-append, length-set, get_or-set_other, get_or-set_same, unwrap_or}
 use mathlib.Core.Logic.{dite}
 use mathlib.Core.Option as maybe
 use native.Mathlib.Decide.{ℕ_discrete}
@@ -19,7 +19,7 @@ use Rattle.turn_lock.specs.Plays.{noted_by, Ended}
 use Rattle.turn_lock.proofs.Histories.{begins_le, begins_more, left_by_last, legal_last}
 use Rattle.turn_lock.proofs.Lists.{map_changed, map_same, total_none, total_set}
 use Rattle.turn_lock.proofs.Marks.{length_with_mark, mark_new, mark_old, mark_past, selected_front, selected_last}
-use Rattle.turn_lock.proofs.Views.{differ_set, each_set, one_some, owns_all, turn_same}
+use Rattle.turn_lock.proofs.Views.{each_set, one_some, owns_all, turn_same}
 
 module _ {O C R : Type 0} (may : O → C → Type 0) (allows : O → C → R → Type 0) (after : O → C → R → O) (kept : O → List (List (Entry C R)) → Type 0) (start : O) where
   abbrev V : Type 0

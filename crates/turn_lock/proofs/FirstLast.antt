@@ -1,10 +1,10 @@
 -- The first pass keeps the rule, and the last one has all that the rule speaks of.
-use Rattle.std.proofs.Common.{◌≡◌, ◌≢◌, ℕ, zero, suc, ◌+◌, ◌-◌, ◌%◌, ◌<◌, ◌≤◌, ◌⊎◌, List, [], ◌∷◌, ◌++◌, append-nil, length, Option, Some, refl, sym, ap, ◌∙◌, subst, inl, ⊎_elim, arith, length-append}
+use Rattle.std.proofs.Common.{◌≡◌, ◌≢◌, ℕ, zero, suc, List, [], ◌∷◌, ◌++◌, append-nil, length, Option, Some, refl, sym, ap, ◌∙◌, subst, inl, ⊎_elim, arith, length-append}
 use mathlib.Core.Logic.{dite}
 use mathlib.Core.Option as maybe
 use native.Mathlib.Decide.{ℕ_discrete}
 use lib.ListN.{get_elem?}
-use Rattle.atomic_table.specs.Table.{State, Me, keeps, opening}
+use Rattle.atomic_table.specs.Table.{State, Me, opening}
 use Rattle.turn_lock.specs.declared.history.Entry.{Entry}
 use Rattle.turn_lock.specs.declared.view.Stage.TheVariants.{Idle, Serving}
 use Rattle.turn_lock.specs.declared.view.View.{View}

@@ -1,8 +1,8 @@
 -- Beginnings of lists, and histories that grow by one entry.
-use Rattle.std.proofs.Common.{◌≡◌, ◌≢◌, ℕ, ◌+◌, ◌-◌, ◌<◌, ◌≤◌, Bool, true, false, ◌||◌, if◌then◌else◌, ◌⊎◌, List, [], ◌∷◌, ◌++◌, length, refl, sym, ap, ◌∙◌, subst, subst₂, inl, inr, ⊎_elim, arith, append_assoc, append-nil, length-append, cond, tests}
+use Rattle.std.proofs.Common.{◌≡◌, ℕ, ◌+◌, ◌<◌, ◌≤◌, Bool, true, false, ◌⊎◌, List, [], ◌∷◌, ◌++◌, length, refl, sym, ap, ◌∙◌, subst, subst₂, inl, inr, ⊎_elim, arith, append_assoc, append-nil, length-append, cond, tests}
 use native.Mathlib.Decide.{dec_lt}
 use Rattle.turn_lock.specs.declared.history.Entry.{Entry}
-use Rattle.turn_lock.specs.History.{entry, left_by, Legal, Begins, Interleaves, longer}
+use Rattle.turn_lock.specs.History.{left_by, Legal, Begins, Interleaves, longer}
 use Rattle.turn_lock.specs.Marks.{selected, mark_at, merged}
 use Rattle.turn_lock.proofs.Marks.{interleaves, selected_front}
 
@@ -39,10 +39,13 @@ module _ {A : Type 0} where
   longer_of xs ys (yes l) h = let e : longer xs ys ≡ ys = grind (arith, tests) in
       subst (λ (z : List A). Begins xs z × Begins ys z) (sym e) (⊎_elim (λ a. a) (λ a. absurd (let q = begins_le ys xs a in omega arith)) h, begins_itself ys)
   longer_of xs ys (no n) h = let e : longer xs ys ≡ xs = grind (arith, tests) in
-      subst (λ (z : List A). Begins xs z × Begins ys z) (sym e) (begins_itself xs, ⊎_elim
-      (λ a. let z : a.0 ≡ [] = no_items a.0 (let q = ap length a.1 in let w = length-append xs a.0 in omega arith) in
-      ([], sym (append-nil ys ∙ (a.1 ∙ (ap (λ (l : List A). xs ++ l) z ∙ append-nil xs)))))
-      (λ a. a) h)
+      subst (λ (z : List A). Begins xs z × Begins ys z) (sym e) (
+        begins_itself xs,
+        ⊎_elim
+            (λ a. let z : a.0 ≡ [] = no_items a.0 (let q = ap length a.1 in let w = length-append xs a.0 in omega arith) in
+            ([], sym (append-nil ys ∙ (a.1 ∙ (ap (λ (l : List A). xs ++ l) z ∙ append-nil xs)))))
+            (λ a. a) h,
+      )
 
   -- of two lists of which one begins the other, both begin the longer
   pub both_begin_longer : (xs ys : List A) → Begins xs ys ⊎ Begins ys xs → Begins xs (longer xs ys) × Begins ys (longer xs ys)

@@ -92,10 +92,10 @@ module _ {O C R : Type 0} (may : O → C → Type 0) (allows : O → C → R →
   ready_ends kept start kept_call slots id m s0 v0 log back call reply r holding noted_so =
       let at : (P : View O C R → Type 0) → P (record v0 { stage = Serving; seen = log }) → P m.0 = λ P. subst P (sym r.view) in
       end_keeps may allows after kept start fits kept_call slots id m back (entry call reply) s0 (ap (λ (v : View O C R). v.start) r.view ∙ r.begun) holding noted_so (ap (λ (v : View O C R). v.stage) r.view)
-          (at (λ (v : View O C R). fits (selected v.own v.seen) call) r.ok)
-          (at (λ (v : View O C R). may (left_by after s0 v.seen) call) r.may_so)
-          (at (λ (v : View O C R). allows (left_by after s0 v.seen) call reply) r.allows_so)
-          (at (λ (v : View O C R). back.object ≡ after (left_by after s0 v.seen) call reply) r.now)
+      (at (λ (v : View O C R). fits (selected v.own v.seen) call) r.ok)
+      (at (λ (v : View O C R). may (left_by after s0 v.seen) call) r.may_so)
+      (at (λ (v : View O C R). allows (left_by after s0 v.seen) call reply) r.allows_so)
+      (at (λ (v : View O C R). back.object ≡ after (left_by after s0 v.seen) call reply) r.now)
 
   pub extends : (s0 : O) (p q : Pass O C R) (log : List (Entry C R)) (object : O) (call : C) (reply : R) (m : Me (Option (Held O C R)) (View O C R)) → Ready s0 p.me.0 log object call reply m
       → q.me.0 ≡ ended m.0 (entry call reply) → (m.0.share ≡ all_shares → (k : ℕ) → k < length m.0.seen + 1 → mark_at (with_mark m.0.own (length m.0.seen)) k ≡ 1)

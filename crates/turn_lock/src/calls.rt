@@ -75,7 +75,9 @@ impl<O: Object> TurnLock<O> {
             thread::yield_now();
             return looks + 1;
         }
-        self.table.shared.park(rt, 1, (serving & 0xffff_ffff) as u32);
+        self.table
+            .shared
+            .park(rt, 1, (serving & 0xffff_ffff) as u32);
         looks
     }
 

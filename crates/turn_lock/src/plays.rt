@@ -63,9 +63,8 @@ pub struct Confirm<O> {
     object: PhantomData<O>,
 }
 
-impl<O: Object> Play<Option<Held<O, O::Call, O::Reply>>, View<O, O::Call, O::Reply>> for Confirm<
-    O,
-> {
+impl<O: Object> Play<Option<Held<O, O::Call, O::Reply>>, View<O, O::Call, O::Reply>>
+    for Confirm<O> {
     ghost use Rattle.turn_lock.specs.Plays.{Confirmed};
 
     ghost then = { Confirmed O.may O.allows O.after };

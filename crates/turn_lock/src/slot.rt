@@ -16,8 +16,8 @@ pub struct Held<O, C, R> {
 }
 
 impl<O, C, R> Held<O, C, R> {
-    /// The object, without the note.
-    pub fn into_object(self) -> O
+    // The object, without the note.
+    pub(crate) fn into_object(self) -> O
         ensures { result ≡ self.object }
     {
         let Self { object, last: _ } = self;

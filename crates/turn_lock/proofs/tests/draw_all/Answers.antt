@@ -15,7 +15,7 @@ loop-preserved g c = (
 
 pub returns-clause-drawn : goal.returns-clause-drawn
 returns-clause-drawn g c = elim c.loop-test.branch [
-  else-loop-test w ↦ subst (λ p. HasDrawn c.args.lock.now p c.loop.numbers.items) (sym w.pass-is) c.loop.invariant.0
+  | else-loop-test w ↦ subst (λ p. HasDrawn c.args.lock.now p c.loop.numbers.items) (sym w.pass-is) c.loop.invariant.0
   | then-loop-test+then-len-capacity w ↦ subst (λ p. HasDrawn c.args.lock.now p c.loop.numbers.items) (sym w.pass-is) c.loop.invariant.0
   | then-loop-test+else-len-capacity+in-None w ↦ subst (λ p. HasDrawn c.args.lock.now p c.loop.numbers.items) (sym w.pass-is)
       ((w.act.ensures.lock, w.act.ensures.call.legal), λ x. draw_none x c.loop.numbers.items _ _ _ w.act.result w.act.ensures.call.listed w.in-None.is (c.loop.invariant.0.1 x))

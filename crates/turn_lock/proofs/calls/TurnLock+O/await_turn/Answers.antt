@@ -1,4 +1,4 @@
-use Rattle.std.proofs.Common.{rules, ap, ◌∙◌, subst, sym}
+use Rattle.std.proofs.Common.{rules, ap, ◌∙◌, subst}
 use Rattle.turn_lock.specs.Plays.{HasCome}
 use Rattle.turn_lock.proofs.Steps.{look_keeps}
 use Rattle.turn_lock.proofs.calls.TurnLock+O.await_turn.Goals as goal

@@ -1,5 +1,5 @@
-use Rattle.std.proofs.Common.{◌≡◌, List, [], ◌∷◌, None, Some, sym, ap, ◌∙◌, subst, unwrap_or}
-use mathlib.Core.Option.{some, some-injective}
+use Rattle.std.proofs.Common.{◌≡◌, None, Some, sym, ap, ◌∙◌, unwrap_or}
+use mathlib.Core.Option.{some-injective}
 use lib.ListN.{get_elem?}
 use Rattle.turn_lock.proofs.FirstLast.{alone_at_home}
 use Rattle.turn_lock.proofs.closing.TurnLock+O.close.Goals as goal

@@ -1,4 +1,4 @@
-use Rattle.std.proofs.Common.{rules, ◌<◌, ◌+◌, ℕ, ap, subst, sym, arith}
+use Rattle.std.proofs.Common.{rules, ◌<◌, ap, subst, sym, arith}
 use Rattle.turn_lock.specs.View.{joined}
 use Rattle.turn_lock.proofs.Sharing.{join_keeps, confirm_keeps, join_told}
 use Rattle.turn_lock.proofs.passes.TurnLock+O.join.Goals as goal
