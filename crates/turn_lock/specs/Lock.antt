@@ -12,10 +12,11 @@ use Rattle.turn_lock.specs.History.{entry, Legal, Begins, Interleaves, longer}
 use Rattle.turn_lock.specs.Marks.{selected, mark_at, with_mark, merged}
 use Rattle.turn_lock.specs.View.{all_shares}
 
--- a lock and a pass of an object with these states, calls and replies
+-- a lock of an object with these states, calls and replies
 abbrev pub TurnLock : Type 0 → Type 0 → Type 0 → Type 0
 TurnLock O C R = Locked (Option (Held O C R)) (View O C R) (Snapshot O) (Turns O)
 
+-- a pass of such a lock
 abbrev pub Pass : Type 0 → Type 0 → Type 0 → Type 0
 Pass O C R = Seat (Option (Held O C R)) (View O C R)
 

@@ -4,6 +4,7 @@ use Rattle.turn_lock.specs.declared.history.Entry.{Entry}
 use Rattle.turn_lock.specs.History.{left_by, Legal}
 use Rattle.turn_lock.specs.Lock.{TurnLock, Pass, IsPassOf, opened_with, own_of, seen_of}
 
+-- where this is the next number, none is left
 abbrev pub last_number : ℕ
 last_number = 18446744073709551615
 

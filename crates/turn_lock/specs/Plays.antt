@@ -43,6 +43,7 @@ module _ {O C R : Type 0} (may : O → C → Type 0) (allows : O → C → R →
 abbrev pub noted : {C R : Type 0} → Note C R → Entry C R
 noted z = entry z.call.value z.reply.value
 
+-- the same, where there is a note
 abbrev pub noted_in : {C R : Type 0} → Option (Note C R) → Option (Entry C R)
 noted_in None = None
 noted_in (Some z) = Some (noted z)

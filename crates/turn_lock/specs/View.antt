@@ -35,9 +35,11 @@ module _ {O C R : Type 0} where
   abbrev pub JoinedParts : View O C R → Type 0
   JoinedParts v = OfOneHistory v.left_seen v.right_seen v.left_own v.right_own
 
+  -- 1 where the pass of this view has a turn
   abbrev pub waiting : View O C R → ℕ
   waiting v = waits v.stage
 
+  -- its part of all shares
   abbrev pub share_in : View O C R → ℕ
   share_in v = v.share
 
@@ -57,16 +59,18 @@ module _ {O C R : Type 0} where
   abbrev pub ended : View O C R → Entry C R → View O C R
   ended v e = record v { stage = Idle; seen = v.seen ++ e ∷ []; own = with_mark v.own (length v.seen) }
 
-  -- of a pass that was split, and of the new one
+  -- of a pass that was split
   abbrev pub split_old : View O C R → View O C R
   split_old v = record v { share = v.share - 1 }
 
+  -- of the new pass, which has made no call
   abbrev pub split_new : View O C R → View O C R
   split_new v = record v { own = []; share = 1; stage = Idle }
 
-  -- of a pass that took in another, and of that other
+  -- of a pass that took in another
   abbrev pub joined : View O C R → View O C R → View O C R
   joined v w = record { start = v.start; seen = longer v.seen w.seen; own = merged v.own w.own; share = v.share + w.share; stage = Idle; left_seen = v.seen; right_seen = w.seen; left_own = v.own; right_own = w.own }
 
+  -- of that other
   abbrev pub spent_view : View O C R
   spent_view = record { start = None; seen = []; own = []; share = 0; stage = Idle; left_seen = []; right_seen = []; left_own = []; right_own = [] }
