@@ -1,0 +1,10 @@
+pub mod Lists
+pub mod Marks
+pub mod Histories
+pub mod Views
+pub mod Steps
+pub mod Ends
+pub mod Sharing
+pub mod FirstLast
+pub mod Serving
+pub mod Draws
