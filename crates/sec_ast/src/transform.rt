@@ -1,0 +1,33 @@
+/// A transformation of a value, by its canonical name: the names of the reference manual's chapter
+/// "Transformation functions" in Rust's case.
+#[derive(Clone, Copy, Debug, PartialEq, Eq)]
+pub enum Transform {
+    Base64Decode,
+    Base64Encode,
+    CmdLine,
+    CompressWhitespace,
+    CssDecode,
+    EscapeSeqDecode,
+    HexDecode,
+    HexEncode,
+    HtmlEntityDecode,
+    JsDecode,
+    Length,
+    Lowercase,
+    Uppercase,
+    Md5,
+    Sha1,
+    NormalizePath,
+    NormalizePathWin,
+    RemoveCommentsChar,
+    RemoveNulls,
+    RemoveWhitespace,
+    ReplaceComments,
+    ReplaceNulls,
+    Trim,
+    TrimLeft,
+    TrimRight,
+    UrlDecode,
+    UrlDecodeUni,
+    Utf8ToUnicode,
+}
