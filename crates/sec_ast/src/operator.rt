@@ -1,4 +1,5 @@
-ghost use Rattle.std.specs.Prelude.{◌≡◌};
+ghost use Rattle.std.specs.Prelude.{◌≡◌, Some};
+ghost use Rattle.sec_ast.specs.Operator.{operator_name, operator_named};
 
 use crate::macros::Macro;
 use std::alloc::AllocError;
@@ -28,6 +29,70 @@ pub enum OpKind {
     UnconditionalMatch,
     NoMatch,
 }
+
+const OP_KINDS: [OpKind; 18] = [
+    OpKind::Rx,
+    OpKind::Pm,
+    OpKind::Streq,
+    OpKind::Contains,
+    OpKind::BeginsWith,
+    OpKind::EndsWith,
+    OpKind::Within,
+    OpKind::Eq,
+    OpKind::Ge,
+    OpKind::Gt,
+    OpKind::Le,
+    OpKind::Lt,
+    OpKind::IpMatch,
+    OpKind::ValidateByteRange,
+    OpKind::ValidateUrlEncoding,
+    OpKind::ValidateUtf8Encoding,
+    OpKind::UnconditionalMatch,
+    OpKind::NoMatch,
+];
+
+impl OpKind {
+    /// The canonical name, as it is printed behind `@`.
+    pub fn name(self) -> &'static [u8]
+        ensures { result.now ≡ operator_name self }
+    {
+        match self {
+            OpKind::Rx => b"rx",
+            OpKind::Pm => b"pm",
+            OpKind::Streq => b"streq",
+            OpKind::Contains => b"contains",
+            OpKind::BeginsWith => b"beginsWith",
+            OpKind::EndsWith => b"endsWith",
+            OpKind::Within => b"within",
+            OpKind::Eq => b"eq",
+            OpKind::Ge => b"ge",
+            OpKind::Gt => b"gt",
+            OpKind::Le => b"le",
+            OpKind::Lt => b"lt",
+            OpKind::IpMatch => b"ipMatch",
+            OpKind::ValidateByteRange => b"validateByteRange",
+            OpKind::ValidateUrlEncoding => b"validateUrlEncoding",
+            OpKind::ValidateUtf8Encoding => b"validateUtf8Encoding",
+            OpKind::UnconditionalMatch => b"unconditionalMatch",
+            OpKind::NoMatch => b"noMatch",
+        }
+    }
+
+    /// The kind of this canonical name, without regard to case.
+    pub fn named(word: &[u8]) -> Option<OpKind>
+        ensures { result ≡ operator_named word.now }
+    {
+        OP_KINDS
+            .iter()
+            .copied()
+            .find(|one| one.name().eq_ignore_ascii_case(word))
+    }
+}
+
+/// The kind of a canonical name is the one that has it.
+pub fn operator_of_its_name()
+    ensures { (operator : OpKind) → operator_named (operator_name operator) ≡ Some operator }
+{}
 
 /// An operator with its argument. `text` has the pattern of `Rx`, as one part of text or none, and
 /// the argument of a kind that takes a macro; `words` has the phrases, the addresses or the ranges.
