@@ -47,5 +47,5 @@ all_kinds =
     []
 
 -- the kind of a name, without regard to case
-abbrev pub operator_named : List ℕ → Option OpKind
+unfoldable pub operator_named : List ℕ → Option OpKind
 operator_named word = find (λ k. str_eq_ignore_ascii_case (operator_name k) word) all_kinds

@@ -12,7 +12,7 @@ engine_name engines.Off = codes "Off"
 engine_name engines.DetectionOnly = codes "DetectionOnly"
 
 -- the setting of a name, without regard to case
-abbrev pub engine_named : List ℕ → Option Engine
+unfoldable pub engine_named : List ℕ → Option Engine
 engine_named word =
     find (λ e. str_eq_ignore_ascii_case (engine_name e) word)
     (engines.On ∷ engines.Off ∷ engines.DetectionOnly ∷ [])
@@ -23,7 +23,7 @@ processor_name processors.Urlencoded = codes "URLENCODED"
 processor_name processors.Xml = codes "XML"
 
 -- the processor of a name, without regard to case
-abbrev pub processor_named : List ℕ → Option Processor
+unfoldable pub processor_named : List ℕ → Option Processor
 processor_named word =
     find (λ p. str_eq_ignore_ascii_case (processor_name p) word)
     (processors.Urlencoded ∷ processors.Xml ∷ [])

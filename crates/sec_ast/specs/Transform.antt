@@ -77,5 +77,5 @@ other_named word =
     else (if str_eq_ignore_ascii_case (codes "normalisePathWin") word then Some transforms.NormalizePathWin else None)
 
 -- the transformation of a name, without regard to case
-abbrev pub transform_named : List ℕ → Option Transform
+unfoldable pub transform_named : List ℕ → Option Transform
 transform_named word = option_or (canonical_named word) (other_named word)

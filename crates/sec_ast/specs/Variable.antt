@@ -146,7 +146,7 @@ other_named word =
     else (if is_one_of multipart_names word then Some vars.MultipartStrictError else None))
 
 -- the variable of a name, without regard to case
-abbrev pub variable_named : List ℕ → Option Var
+unfoldable pub variable_named : List ℕ → Option Var
 variable_named word = option_or (canonical_named word) (other_named word)
 
 -- ---- which of them are collections

@@ -79,6 +79,7 @@ impl OpKind {
     }
 
     /// The kind of this canonical name, without regard to case.
+    #[tactic(auto, unfolding(crate::specs::Operator::operator_named))]
     pub fn named(word: &[u8]) -> Option<OpKind>
         ensures { result ≡ operator_named word.now }
     {
@@ -90,6 +91,7 @@ impl OpKind {
 }
 
 /// The kind of a canonical name is the one that has it.
+#[tactic(auto, unfolding(crate::specs::Operator::operator_named))]
 pub fn operator_of_its_name()
     ensures { (operator : OpKind) → operator_named (operator_name operator) ≡ Some operator }
 {}

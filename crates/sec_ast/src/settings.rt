@@ -27,6 +27,7 @@ impl Engine {
     }
 
     /// The setting of this name, without regard to case.
+    #[tactic(auto, unfolding(crate::specs::Settings::engine_named))]
     pub fn named(word: &[u8]) -> Option<Engine>
         ensures { result ≡ engine_named word.now }
     {
@@ -38,6 +39,7 @@ impl Engine {
 }
 
 /// The setting of a name is the one that has it.
+#[tactic(auto, unfolding(crate::specs::Settings::engine_named))]
 pub fn engine_of_its_name()
     ensures { (engine : Engine) → engine_named (engine_name engine) ≡ Some engine }
 {}
@@ -68,6 +70,7 @@ impl Processor {
     }
 
     /// The processor of this name, without regard to case; no name gives `Plain`.
+    #[tactic(auto, unfolding(crate::specs::Settings::processor_named))]
     pub fn named(word: &[u8]) -> Option<Processor>
         ensures { result ≡ processor_named word.now }
     {

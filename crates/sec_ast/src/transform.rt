@@ -126,6 +126,7 @@ impl Transform {
     }
 
     /// The transformation of this canonical or other name, without regard to case.
+    #[tactic(auto, unfolding(crate::specs::Transform::transform_named))]
     pub fn named(word: &[u8]) -> Option<Transform>
         ensures { result ≡ transform_named word.now }
     {
@@ -137,6 +138,7 @@ impl Transform {
 }
 
 /// The transformation of a canonical name is the one that has it.
+#[tactic(auto, unfolding(crate::specs::Transform::transform_named))]
 pub fn transform_of_its_name()
     ensures { (transform : Transform) → transform_named (transform_name transform) ≡ Some transform }
 {}

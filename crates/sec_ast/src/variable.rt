@@ -214,6 +214,7 @@ impl Var {
     }
 
     /// The variable of this canonical or other name, without regard to case.
+    #[tactic(auto, unfolding(crate::specs::Variable::variable_named))]
     pub fn named(word: &[u8]) -> Option<Var>
         ensures { result ≡ variable_named word.now }
     {
@@ -252,6 +253,7 @@ impl Var {
 }
 
 /// The variable of a canonical name is the one that has it.
+#[tactic(auto, unfolding(crate::specs::Variable::variable_named))]
 pub fn variable_of_its_name()
     ensures { (var : Var) → variable_named (variable_name var) ≡ Some var }
 {}
