@@ -1,0 +1,31 @@
+//! The rule language as plain data: what a listing of rules holds, in the shape in which it is read,
+//! printed and evaluated. Every field is public, and every clone is equal to its original.
+#![tactic(auto)]
+
+mod action;
+mod link;
+mod listing;
+mod macros;
+mod names;
+mod operator;
+mod rule;
+mod selector;
+mod settings;
+mod target;
+mod transform;
+mod variable;
+mod verdict;
+
+pub use action::{Change, Ctl, Disrupt, SetVar};
+pub use link::Link;
+pub use listing::{Item, Listing};
+pub use macros::{Macro, Part};
+pub use names::is_among;
+pub use operator::{Op, OpKind, operator_of_its_name};
+pub use rule::{Place, Rule};
+pub use selector::Selector;
+pub use settings::{Engine, Processor, engine_of_its_name};
+pub use target::{Select, Target};
+pub use transform::{Transform, transform_of_its_name};
+pub use variable::{Var, variable_of_its_name};
+pub use verdict::{LogLine, Verdict, VerdictAct};

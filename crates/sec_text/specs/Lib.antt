@@ -1,0 +1,7 @@
+pub mod Readers
+pub mod Quotes
+pub mod Words
+pub mod Lines
+pub mod Joining
+pub mod Written
+pub mod WrittenLines
