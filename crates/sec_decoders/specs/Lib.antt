@@ -1,0 +1,9 @@
+pub mod Css
+pub mod Digits
+pub mod Entities
+pub mod EscapeSequences
+pub mod Escaped
+pub mod JavaScript
+pub mod Pieces
+pub mod Unicode
+pub mod UrlUni

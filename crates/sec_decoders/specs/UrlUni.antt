@@ -1,0 +1,30 @@
+-- The decoding of `%` escapes, `%u` escapes among them.
+use Rattle.std.specs.Prelude.{ℕ, ◌-◌, ◌%◌, List, [], ◌∷◌, Option, Some, None, cond, ◌&&◌, ◌||◌, ◌==◌}
+use Rattle.std.specs.Option.{option_map}
+use Rattle.sec_decoders.specs.Pieces.{Piece, or_else, itself}
+use Rattle.sec_decoders.specs.Digits.{within, hex_number}
+
+-- the low byte, or, for a full-width form, ff01 to ff5e, the letter itself
+abbrev pub narrowed : ℕ → ℕ
+narrowed n = cond (within 65281 65374 n) (n - 65248) (n % 256)
+
+-- `%u` or `%U` and four digits
+abbrev pub percent_u : List ℕ → Option Piece
+percent_u (p ∷ u ∷ a ∷ b ∷ c ∷ d ∷ rest) =
+    cond (p == 37 && (u == 117 || u == 85))
+    (option_map (λ n. (narrowed n ∷ [], 6)) (hex_number (a ∷ b ∷ c ∷ d ∷ [])))
+    None
+percent_u other = None
+
+-- `%` and two digits
+abbrev pub percent : List ℕ → Option Piece
+percent (p ∷ a ∷ b ∷ rest) = cond (p == 37) (option_map (λ n. (n ∷ [], 3)) (hex_number (a ∷ b ∷ []))) None
+percent other = None
+
+-- `+` is a space
+abbrev pub plus : List ℕ → Option Piece
+plus (p ∷ rest) = cond (p == 43) (Some (32 ∷ [], 1)) None
+plus [] = None
+
+abbrev pub url_uni : List ℕ → Piece
+url_uni front = or_else (percent_u front) (or_else (percent front) (or_else (plus front) (itself front)))

@@ -1,0 +1,102 @@
+ghost use Rattle.std.specs.Prelude.{◌≡◌, ◌<◌, ◌≤◌, ◌+◌, ◌^◌, [], ◌∷◌, length, take, drop, IfOk, IfSome};
+ghost use Rattle.std.specs.Option.{option_map};
+ghost use Rattle.std.specs.List.{take_while};
+ghost use Rattle.sec_decoders.specs.Digits.{is_hex, number_in};
+ghost use Rattle.sec_decoders.specs.Pieces.{pieces};
+ghost use Rattle.sec_decoders.specs.Css.{css, css_number, css_digits, space};
+
+use crate::digits::{digit_of, is_hex};
+use crate::{Decoder, Piece, decode, narrow};
+use std::alloc::Global;
+use waf_plain::{Bytes, NoMemory};
+
+/// `cssDecode` of the ModSecurity reference manual: the `\` escapes of CSS 2, section 4.1.3, of
+/// which the low byte is taken. A `\` before a line feed or at the end gives nothing.
+pub fn css_decode(alloc: Global, value: &[u8]) -> Result<Bytes, NoMemory>
+    ensures { IfOk result (λ bytes. bytes ≡ take 1048576 (pieces css 0 value.now)) }
+{
+    decode(alloc, &Css, value)
+}
+
+/// The escapes of CSS.
+pub struct Css;
+
+impl Decoder for Css {
+    ghost piece = { css };
+
+    fn piece(&self, front: &[u8]) -> Piece {
+        if let Some((n, takes)) = number(front) {
+            return Piece::byte(n, takes);
+        }
+        match front {
+            [b'\\', b'\n', ..] => Piece::nothing(2),
+            [b'\\', c, ..] => Piece::byte(*c, 2),
+            [b'\\'] => Piece::nothing(1),
+            _ => Piece::byte(front[0], 1),
+        }
+    }
+}
+
+/// The byte of `\` and digits, and how many bytes they are.
+fn number(front: &[u8]) -> Option<(u8, usize)>
+    ensures row { css_number front.now ≡ option_map (λ n. (n.0 ∷ [], n.1)) result }
+    ensures there { IfSome result (λ n. (0 < n.1) × (n.1 ≤ length front.now)) }
+{
+    match front {
+        [b'\\', ..] => digits_number(front.split_at(1).1),
+        _ => None,
+    }
+}
+
+fn digits_number(text: &[u8]) -> Option<(u8, usize)>
+    requires { length text.now + 1 < 2 ^ 63 }
+    ensures row { css_digits text.now ≡ option_map (λ n. (n.0 ∷ [], n.1)) result }
+    ensures there { IfSome result (λ n. (0 < n.1) × (n.1 ≤ length text.now + 1)) }
+{
+    let (digits, rest) = digits_of(text);
+    if digits.is_empty() {
+        return None;
+    }
+    Some((narrow(short_number(digits)), 1 + digits.len() + space(rest)))
+}
+
+/// The digits at the front, at most six, and what is behind them.
+fn digits_of(text: &[u8]) -> (&[u8], &[u8])
+    ensures digits { result.0.now ≡ take_while is_hex (take 6 text.now) }
+    ensures rest { result.1.now ≡ drop (length (take_while is_hex (take 6 text.now))) text.now }
+    ensures parts { length text.now ≡ length result.0.now + length result.1.now }
+    ensures few { length result.0.now ≤ 6 }
+{
+    text.split_at(digits_len(text))
+}
+
+fn digits_len(text: &[u8]) -> usize
+    ensures count { result ≡ length (take_while is_hex (take 6 text.now)) }
+    ensures within { result ≤ length text.now }
+    ensures few { result ≤ 6 }
+{
+    text.iter().take(6).take_while(|c| is_hex(**c)).count()
+}
+
+/// The number that at most six hexadecimal digits write.
+fn short_number(digits: &[u8]) -> u32
+    requires { length digits.now ≤ 6 }
+    ensures { result ≡ number_in 16 digits.now }
+{
+    let mut sum = 0u32;
+    for digit in digits {
+        sum = sum * 16 + u32::from(digit_of(*digit));
+    }
+    sum
+}
+
+/// One whitespace byte at the front.
+fn space(text: &[u8]) -> usize
+    ensures count { result ≡ space text.now }
+    ensures within { result ≤ length text.now }
+{
+    match text {
+        [9..=13 | b' ', ..] => 1,
+        _ => 0,
+    }
+}

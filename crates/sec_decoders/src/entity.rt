@@ -1,0 +1,160 @@
+ghost use Rattle.std.specs.Prelude.{◌≡◌, ◌<◌, ◌≤◌, ◌+◌, ◌^◌, ◌∷◌, [], map, take, drop, length, IfOk, IfSome};
+ghost use Rattle.std.specs.Option.{option_map};
+ghost use Rattle.std.specs.List.{take_while};
+ghost use Rattle.std.specs.Char.{to_ascii_lowercase};
+ghost use Rattle.std.specs.Str.{bytes_eq};
+ghost use Rattle.sec_decoders.specs.Digits.{is_hex, is_decimal};
+ghost use Rattle.sec_decoders.specs.Pieces.{pieces};
+ghost use Rattle.sec_decoders.specs.Entities.{semicolon, hex_entity, decimal_entity, numbered, named, name_entity, entities};
+
+use crate::digits::{is_hex, low_byte};
+use crate::{Decoder, Piece, decode};
+use std::alloc::Global;
+use waf_plain::{Bytes, NoMemory};
+
+/// `htmlEntityDecode` of the ModSecurity reference manual: numbers in hexadecimal and decimal, of
+/// which the low byte is taken, and five names. The `;` may be missing.
+pub fn html_entity_decode(alloc: Global, value: &[u8]) -> Result<Bytes, NoMemory>
+    ensures { IfOk result (λ bytes. bytes ≡ take 1048576 (pieces entities 0 value.now)) }
+{
+    decode(alloc, &Entities, value)
+}
+
+/// The character references of HTML.
+pub struct Entities;
+
+impl Decoder for Entities {
+    ghost piece = { entities };
+
+    fn piece(&self, front: &[u8]) -> Piece {
+        if let Some((n, takes)) = hex_entity(front) {
+            return Piece::byte(n, takes);
+        }
+        if let Some((n, takes)) = decimal_entity(front) {
+            return Piece::byte(n, takes);
+        }
+        if let Some((n, takes)) = name_entity(front) {
+            return Piece::byte(n, takes);
+        }
+        Piece::byte(front[0], 1)
+    }
+}
+
+/// `&#x` and hexadecimal digits.
+fn hex_entity(front: &[u8]) -> Option<(u8, usize)>
+    ensures row { hex_entity front.now ≡ option_map (λ p. (p.0 ∷ [], p.1)) result }
+    ensures there { IfSome result (λ p. (0 < p.1) × (p.1 ≤ length front.now)) }
+{
+    match front {
+        [b'&', b'#', b'x' | b'X', ..] => hex_numbered(front.split_at(3).1),
+        _ => None,
+    }
+}
+
+fn hex_numbered(text: &[u8]) -> Option<(u8, usize)>
+    requires { length text.now + 3 < 2 ^ 63 }
+    ensures row { numbered 16 3 (take_while is_hex text.now) text.now ≡ option_map (λ p. (p.0 ∷ [], p.1)) result }
+    ensures there { IfSome result (λ p. (0 < p.1) × (p.1 ≤ length text.now + 3)) }
+{
+    let (digits, rest) = text.split_at(hex_len(text));
+    if digits.is_empty() {
+        return None;
+    }
+    Some((low_byte(16, digits), 3 + digits.len() + semicolon(rest)))
+}
+
+fn hex_len(text: &[u8]) -> usize
+    ensures count { result ≡ length (take_while is_hex text.now) }
+    ensures within { result ≤ length text.now }
+{
+    text.iter().take_while(|c| is_hex(**c)).count()
+}
+
+/// `&#` and decimal digits.
+fn decimal_entity(front: &[u8]) -> Option<(u8, usize)>
+    ensures row { decimal_entity front.now ≡ option_map (λ p. (p.0 ∷ [], p.1)) result }
+    ensures there { IfSome result (λ p. (0 < p.1) × (p.1 ≤ length front.now)) }
+{
+    match front {
+        [b'&', b'#', ..] => decimal_numbered(front.split_at(2).1),
+        _ => None,
+    }
+}
+
+fn decimal_numbered(text: &[u8]) -> Option<(u8, usize)>
+    requires { length text.now + 2 < 2 ^ 63 }
+    ensures row { numbered 10 2 (take_while is_decimal text.now) text.now ≡ option_map (λ p. (p.0 ∷ [], p.1)) result }
+    ensures there { IfSome result (λ p. (0 < p.1) × (p.1 ≤ length text.now + 2)) }
+{
+    let (digits, rest) = text.split_at(decimal_len(text));
+    if digits.is_empty() {
+        return None;
+    }
+    Some((low_byte(10, digits), 2 + digits.len() + semicolon(rest)))
+}
+
+fn decimal_len(text: &[u8]) -> usize
+    ensures count { result ≡ length (take_while is_decimal text.now) }
+    ensures within { result ≤ length text.now }
+{
+    text.iter().take_while(|c| is_decimal(**c)).count()
+}
+
+fn is_decimal(byte: u8) -> bool
+    ensures { result ≡ is_decimal byte }
+{
+    byte.is_ascii_digit()
+}
+
+/// One of the names that are read.
+fn name_entity(front: &[u8]) -> Option<(u8, usize)>
+    ensures row { name_entity front.now ≡ option_map (λ p. (p.0 ∷ [], p.1)) result }
+    ensures there { IfSome result (λ p. (0 < p.1) × (p.1 ≤ length front.now)) }
+{
+    if let Some(row) = named(front, b"&quot", b'"') {
+        return Some(row);
+    }
+    if let Some(row) = named(front, b"&amp", b'&') {
+        return Some(row);
+    }
+    if let Some(row) = named(front, b"&lt", b'<') {
+        return Some(row);
+    }
+    if let Some(row) = named(front, b"&gt", b'>') {
+        return Some(row);
+    }
+    named(front, b"&nbsp", 160)
+}
+
+/// A word at the front, without regard to case.
+fn named(front: &[u8], word: &[u8], byte: u8) -> Option<(u8, usize)>
+    requires { 0 < length word.now }
+    ensures row { named word.now byte front.now ≡ option_map (λ p. (p.0 ∷ [], p.1)) result }
+    ensures there { IfSome result (λ p. (0 < p.1) × (p.1 ≤ length front.now)) }
+{
+    if front.len() < word.len() {
+        return None;
+    }
+    if !begins(front, word) {
+        return None;
+    }
+    Some((byte, word.len() + semicolon(front.split_at(word.len()).1)))
+}
+
+fn begins(front: &[u8], word: &[u8]) -> bool
+    requires { length word.now ≤ length front.now }
+    ensures { result ≡ bytes_eq (map to_ascii_lowercase (take (length word.now) front.now)) (map to_ascii_lowercase word.now) }
+{
+    front.split_at(word.len()).0.eq_ignore_ascii_case(word)
+}
+
+/// One semicolon at the front.
+fn semicolon(text: &[u8]) -> usize
+    ensures count { result ≡ semicolon text.now }
+    ensures within { result ≤ length text.now }
+{
+    match text {
+        [b';', ..] => 1,
+        _ => 0,
+    }
+}

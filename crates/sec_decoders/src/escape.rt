@@ -1,0 +1,65 @@
+ghost use Rattle.std.specs.Prelude.{◌≡◌, ◌<◌, ◌≤◌, OnSome, IfSome, [], ◌∷◌, length, take, IfOk};
+ghost use Rattle.std.specs.Option.{option_map};
+ghost use Rattle.sec_decoders.specs.Pieces.{pieces};
+ghost use Rattle.sec_decoders.specs.EscapeSequences.{escaped_x, escaped_octal, escape_sequences};
+
+use crate::digits::hex_pair;
+use crate::javascript::ansi_byte;
+use crate::{Decoder, Piece, decode};
+use std::alloc::Global;
+use waf_plain::{Bytes, NoMemory};
+
+/// `escapeSeqDecode` of the ModSecurity reference manual: the escape sequences of ANSI C. A `\` at
+/// the end stays.
+pub fn escape_seq_decode(alloc: Global, value: &[u8]) -> Result<Bytes, NoMemory>
+    ensures { IfOk result (λ bytes. bytes ≡ take 1048576 (pieces escape_sequences 0 value.now)) }
+{
+    decode(alloc, &EscapeSequences, value)
+}
+
+/// The escape sequences of ANSI C.
+pub struct EscapeSequences;
+
+impl Decoder for EscapeSequences {
+    ghost piece = { escape_sequences };
+
+    fn piece(&self, front: &[u8]) -> Piece {
+        if let Some(n) = pair(front) {
+            return Piece::byte(n, 4);
+        }
+        if let Some((n, takes)) = octal(front) {
+            return Piece::byte(n, takes);
+        }
+        match front {
+            [b'\\', c, ..] => Piece::byte(ansi_byte(*c), 2),
+            _ => Piece::byte(front[0], 1),
+        }
+    }
+}
+
+/// The number of `\x` or `\X` and two digits.
+fn pair(front: &[u8]) -> Option<u8>
+    ensures row { escaped_x front.now ≡ option_map (λ n. (n ∷ [], 4)) result }
+    ensures there { OnSome result (4 ≤ length front.now) }
+{
+    match front {
+        [b'\\', b'x' | b'X', a, b, ..] => hex_pair(*a, *b),
+        _ => None,
+    }
+}
+
+/// The number of `\` and octal digits modulo 256, and how many bytes they are.
+fn octal(front: &[u8]) -> Option<(u8, usize)>
+    ensures row { escaped_octal front.now ≡ option_map (λ n. (n.0 ∷ [], n.1)) result }
+    ensures there { IfSome result (λ n. (0 < n.1) × (n.1 ≤ length front.now)) }
+{
+    match front {
+        [b'\\', a @ b'0'..=b'7', b @ b'0'..=b'7', c @ b'0'..=b'7', ..] => {
+            // The first digit above 3 loses its highest bit.
+            Some(((a - b'0') % 4 * 64 + (b - b'0') * 8 + (c - b'0'), 4))
+        }
+        [b'\\', a @ b'0'..=b'7', b @ b'0'..=b'7', ..] => Some(((a - b'0') * 8 + (b - b'0'), 3)),
+        [b'\\', a @ b'0'..=b'7', ..] => Some((a - b'0', 2)),
+        _ => None,
+    }
+}

@@ -1,0 +1,131 @@
+ghost use Rattle.std.specs.Prelude.{◌≡◌, ◌<◌, ◌≤◌, ◌%◌, ◌++◌, length, take, IfOk, IfSome};
+ghost use Rattle.arrayvec.specs.ArrayVec.{array_vec_len};
+ghost use Rattle.sec_decoders.specs.Pieces.{pieces};
+ghost use Rattle.sec_decoders.specs.Unicode.{letter, four_digits, shown, two, three, four, unicode};
+
+use crate::{Decoder, Piece, decode};
+use arrayvec::ArrayVec;
+use std::alloc::Global;
+use waf_plain::{Bytes, NoMemory};
+
+/// `utf8toUnicode` of the ModSecurity reference manual: each sequence of two to four bytes of UTF-8
+/// (RFC 3629, section 3) is shown as `%u` and its number, overlong ones and surrogates too. All
+/// other bytes stay.
+pub fn utf8_to_unicode(alloc: Global, value: &[u8]) -> Result<Bytes, NoMemory>
+    ensures { IfOk result (λ bytes. bytes ≡ take 1048576 (pieces unicode 0 value.now)) }
+{
+    decode(alloc, &Unicode, value)
+}
+
+/// The sequences of UTF-8, by their lead bytes alone.
+pub struct Unicode;
+
+impl Decoder for Unicode {
+    ghost piece = { unicode };
+
+    fn piece(&self, front: &[u8]) -> Piece {
+        if let Some((n, takes)) = two(front) {
+            let gives = shown(n);
+            return Piece { gives, takes };
+        }
+        if let Some((n, takes)) = three(front) {
+            let gives = shown(n);
+            return Piece { gives, takes };
+        }
+        if let Some((n, takes)) = four(front) {
+            let gives = shown(n);
+            return Piece { gives, takes };
+        }
+        Piece::byte(front[0], 1)
+    }
+}
+
+fn two(front: &[u8]) -> Option<(u32, usize)>
+    ensures row { result ≡ two front.now }
+    ensures there { IfSome result (λ p. (p.0 < 2097152) × (0 < p.1) × (p.1 ≤ length front.now)) }
+{
+    match front {
+        [a @ 0xc0..=0xdf, b @ 0x80..=0xbf, ..] => {
+            Some((u32::from(a - 0xc0) * 64 + u32::from(b - 0x80), 2))
+        }
+        _ => None,
+    }
+}
+
+fn three(front: &[u8]) -> Option<(u32, usize)>
+    ensures row { result ≡ three front.now }
+    ensures there { IfSome result (λ p. (p.0 < 2097152) × (0 < p.1) × (p.1 ≤ length front.now)) }
+{
+    match front {
+        [a @ 0xe0..=0xef, b @ 0x80..=0xbf, c @ 0x80..=0xbf, ..] => Some((
+            u32::from(a - 0xe0) * 4096 + u32::from(b - 0x80) * 64 + u32::from(c - 0x80),
+            3,
+        )),
+        _ => None,
+    }
+}
+
+fn four(front: &[u8]) -> Option<(u32, usize)>
+    ensures row { result ≡ four front.now }
+    ensures there { IfSome result (λ p. (p.0 < 2097152) × (0 < p.1) × (p.1 ≤ length front.now)) }
+{
+    match front {
+        [
+            a @ 0xf0..=0xf7,
+            b @ 0x80..=0xbf,
+            c @ 0x80..=0xbf,
+            d @ 0x80..=0xbf,
+            ..
+        ] => Some((
+            u32::from(a - 0xf0) * 262144
+                + u32::from(b - 0x80) * 4096
+                + u32::from(c - 0x80) * 64
+                + u32::from(d - 0x80),
+            4,
+        )),
+        _ => None,
+    }
+}
+
+/// `%u` and a number in lower-case hexadecimal, of at least four digits.
+fn shown(n: u32) -> ArrayVec<u8, 8>
+    ensures { result.items ≡ shown n }
+{
+    let mut out = ArrayVec::new();
+    out.push(b'%');
+    out.push(b'u');
+    if n < 0x10000 {
+        push_four(&mut out, n);
+        return out;
+    }
+    if n < 0x100000 {
+        out.push(letter(n / 0x10000));
+        push_four(&mut out, n);
+        return out;
+    }
+    out.push(letter(n / 0x100000));
+    out.push(letter(n / 0x10000));
+    push_four(&mut out, n);
+    out
+}
+
+fn push_four(out: &mut ArrayVec<u8, 8>, n: u32)
+    requires { array_vec_len out.old ≤ 4 }
+    ensures { out.new.items ≡ out.old.items ++ four_digits n }
+{
+    out.push(letter(n / 4096));
+    out.push(letter(n / 256));
+    out.push(letter(n / 16));
+    out.push(letter(n));
+}
+
+fn letter(n: u32) -> u8
+    ensures { result ≡ letter (n % 16) }
+{
+    let digit = (n % 16) as u8;
+    if digit < 10 {
+        b'0' + digit
+    } else {
+        b'a' + (digit - 10)
+    }
+}

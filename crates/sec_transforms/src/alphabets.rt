@@ -1,0 +1,115 @@
+ghost use Rattle.std.specs.Prelude.{◌≡◌, ℕ, map, take, filter, IfOk};
+ghost use Rattle.std.specs.Char.{to_ascii_lowercase, to_ascii_uppercase};
+ghost use Rattle.sec_transforms.specs.Alphabets.{is_not_null, null_as_space, plus_as_space, backslash_as_slash};
+
+use crate::limit::cut;
+use std::alloc::Global;
+use waf_plain::{Bytes, NoMemory};
+
+/// Another alphabet: what each byte becomes.
+pub(crate) trait Alphabet {
+    ghost image: { ℕ → ℕ };
+
+    fn image(&self, byte: u8) -> u8
+        ensures { result ≡ image byte };
+}
+
+/// The value in another alphabet.
+pub(crate) fn mapped<A: Alphabet>(
+    alloc: Global,
+    alphabet: &A,
+    value: &[u8],
+) -> Result<Bytes, NoMemory>
+    ensures { IfOk result (λ bytes. bytes ≡ map A.image value.now) }
+{
+    let mut out = Bytes::new(alloc);
+    for byte in value {
+        out.push(alphabet.image(*byte))?;
+    }
+    Ok(out)
+}
+
+struct Lower;
+
+impl Alphabet for Lower {
+    ghost image = { to_ascii_lowercase };
+
+    fn image(&self, byte: u8) -> u8 {
+        byte.to_ascii_lowercase()
+    }
+}
+
+struct Upper;
+
+impl Alphabet for Upper {
+    ghost image = { to_ascii_uppercase };
+
+    fn image(&self, byte: u8) -> u8 {
+        byte.to_ascii_uppercase()
+    }
+}
+
+struct NullsAsSpaces;
+
+impl Alphabet for NullsAsSpaces {
+    ghost image = { null_as_space };
+
+    fn image(&self, byte: u8) -> u8 {
+        if byte == 0 { b' ' } else { byte }
+    }
+}
+
+/// `+` is a space.
+pub(crate) struct PlusAsSpace;
+
+impl Alphabet for PlusAsSpace {
+    ghost image = { plus_as_space };
+
+    fn image(&self, byte: u8) -> u8 {
+        if byte == b'+' { b' ' } else { byte }
+    }
+}
+
+/// `\` is a `/`.
+pub(crate) struct Slashes;
+
+impl Alphabet for Slashes {
+    ghost image = { backslash_as_slash };
+
+    fn image(&self, byte: u8) -> u8 {
+        if byte == b'\\' { b'/' } else { byte }
+    }
+}
+
+/// `lowercase`.
+pub(crate) fn lowercase(alloc: Global, value: &[u8]) -> Result<Bytes, NoMemory>
+    ensures { IfOk result (λ bytes. bytes ≡ take 1048576 (map to_ascii_lowercase value.now)) }
+{
+    Ok(cut(mapped(alloc, &Lower, value)?))
+}
+
+/// `uppercase`.
+pub(crate) fn uppercase(alloc: Global, value: &[u8]) -> Result<Bytes, NoMemory>
+    ensures { IfOk result (λ bytes. bytes ≡ take 1048576 (map to_ascii_uppercase value.now)) }
+{
+    Ok(cut(mapped(alloc, &Upper, value)?))
+}
+
+/// `replaceNulls`.
+pub(crate) fn replace_nulls(alloc: Global, value: &[u8]) -> Result<Bytes, NoMemory>
+    ensures { IfOk result (λ bytes. bytes ≡ take 1048576 (map null_as_space value.now)) }
+{
+    Ok(cut(mapped(alloc, &NullsAsSpaces, value)?))
+}
+
+/// `removeNulls`.
+pub(crate) fn remove_nulls(alloc: Global, value: &[u8]) -> Result<Bytes, NoMemory>
+    ensures { IfOk result (λ bytes. bytes ≡ take 1048576 (filter is_not_null value.now)) }
+{
+    let kept = value
+        .iter()
+        .copied()
+        .filter(|byte| *byte != 0)
+        .collect(alloc)?;
+    Ok(cut(Bytes::from_vec(kept)))
+}

@@ -1,0 +1,90 @@
+ghost use Rattle.std.specs.Prelude.{◌≡◌, ◌++◌, [], ◌∷◌, List, ℕ, take, IfOk, OnOk, IfSome, IsTrue, ◌↔◌};
+ghost use Rattle.std.specs.Char.{to_ascii_lowercase};
+ghost use Rattle.sec_transforms.specs.CmdLine.{cmd_line, to_come, is_mark, is_blank, closes};
+
+use sec_decoders::LIMIT;
+use std::alloc::Global;
+use waf_plain::{Bytes, NoMemory};
+
+/// `cmdLine`: the ways to write a command that shells read alike.
+pub(crate) fn cmd_line(alloc: Global, value: &[u8]) -> Result<Bytes, NoMemory>
+    ensures { IfOk result (λ bytes. bytes ≡ take 1048576 (cmd_line value.now)) }
+{
+    let mut line = Line {
+        out: Bytes::new(alloc),
+        space: false,
+    };
+    for byte in value {
+        line.read(*byte)?;
+    }
+    let mut out = line.end()?;
+    out.truncate(LIMIT);
+    Ok(out)
+}
+
+/// What is written, and whether a space is read that may follow.
+#[derive(Drop)]
+struct Line {
+    out: Bytes,
+    space: bool,
+}
+
+impl Line {
+    fn read(&mut self, byte: u8) -> Result<(), NoMemory>
+        ensures { OnOk result ((rest : List ℕ) → self.new.out ++ to_come self.new.space rest ≡ self.old.out ++ to_come self.old.space (byte ∷ rest)) }
+    {
+        if is_mark(byte) {
+            return Ok(());
+        }
+        if is_blank(byte) {
+            self.space = true;
+            return Ok(());
+        }
+        if !self.space {
+            self.out.push(lower(byte))?;
+            return Ok(());
+        }
+        self.space = false;
+        if closes(byte) {
+            self.out.push(lower(byte))?;
+            return Ok(());
+        }
+        self.out.append(&[b' ', lower(byte)])?;
+        Ok(())
+    }
+
+    fn end(self) -> Result<Bytes, NoMemory>
+        ensures { IfOk result (λ bytes. bytes ≡ self.out ++ to_come self.space []) }
+    {
+        let Line { mut out, space } = self;
+        if !space {
+            return Ok(out);
+        }
+        out.push(b' ')?;
+        Ok(out)
+    }
+}
+
+fn is_mark(byte: u8) -> bool
+    ensures { result ≡ is_mark byte }
+{
+    matches!(byte, b'\\' | b'"' | b'\'' | b'^')
+}
+
+fn is_blank(byte: u8) -> bool
+    ensures { result ≡ is_blank byte }
+{
+    matches!(byte, b' ' | b',' | b';' | 9 | 10 | 13)
+}
+
+fn closes(byte: u8) -> bool
+    ensures { result ≡ closes byte }
+{
+    matches!(byte, b'/' | b'(')
+}
+
+fn lower(byte: u8) -> u8
+    ensures { result ≡ to_ascii_lowercase byte }
+{
+    byte.to_ascii_lowercase()
+}

@@ -1,0 +1,15 @@
+//! The transformations of values, and chains of them.
+#![tactic(auto)]
+
+mod alphabets;
+mod apply_names;
+mod command;
+mod comments;
+mod encodings;
+mod limit;
+mod paths;
+#[cfg(test)]
+mod tests;
+mod whitespace;
+
+pub use apply_names::{apply, apply_chain};
