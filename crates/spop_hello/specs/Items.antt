@@ -1,0 +1,36 @@
+-- The items of a text, parted by commas (SPOE.txt, 3.2.4).
+use Rattle.std.specs.Prelude.{ℕ, ◌&&◌, ◌==◌, Bool, List, [], ◌∷◌, length, take, drop, nat_lt, nat_le, if◌then◌else◌, codes}
+use Rattle.std.specs.List.{list_all, list_any, slice_split}
+use Rattle.std.specs.Str.{bytes_eq}
+
+-- no blanks, byte 32, at the start
+abbrev pub without_start : List ℕ → List ℕ
+without_start [] = []
+without_start (b ∷ bs) = if b == 32 then without_start bs else (b ∷ bs)
+
+-- a byte before what was trimmed at its end
+abbrev pub before : ℕ → List ℕ → List ℕ
+before b [] = if b == 32 then [] else (b ∷ [])
+before b (c ∷ cs) = b ∷ c ∷ cs
+
+-- no blanks at the end
+abbrev pub without_end : List ℕ → List ℕ
+without_end [] = []
+without_end (b ∷ bs) = before b (without_end bs)
+
+abbrev pub without_blanks : List ℕ → List ℕ
+without_blanks item = without_end (without_start item)
+
+-- some item, trimmed, passes the test
+abbrev pub has_item : (List ℕ → Bool) → List ℕ → Bool
+has_item passes text = list_any (λ item. passes (without_blanks item)) (slice_split (λ b. b == 44) text)
+
+abbrev pub is_digit : ℕ → Bool
+is_digit b = nat_le 48 b && nat_le b 57
+
+-- `2.` and at least one digit, and nothing else
+abbrev pub is_version : List ℕ → Bool
+is_version item = bytes_eq (take 2 item) (codes "2.") && nat_lt 2 (length item) && list_all is_digit (drop 2 item)
+
+abbrev pub is_pipelining : List ℕ → Bool
+is_pipelining item = bytes_eq item (codes "pipelining")

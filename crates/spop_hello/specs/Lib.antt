@@ -1,0 +1,4 @@
+pub mod Items
+pub mod Offer
+pub mod Terms
+pub mod Frames
