@@ -102,7 +102,7 @@ fn pairs_of_a_request(rt: HostRuntime) -> Result<(), Fail> {
             b"\x08\x02a1\x06method\x08\x03GET".as_slice()
         ))
     );
-    assert_eq!(rt; read_pair(alloc, out.as_slice()), Ok((id, 7)));
+    assert_eq!(rt; read_pair(alloc, out.as_slice()), Ok((id.clone()?, 7)));
     let both = read_pairs(alloc, out.as_slice(), 2);
     assert!(rt; matches!(&both, Ok((pairs, 19)) if pairs.len() == 2));
     assert!(rt; read_pairs(alloc, out.as_slice(), 3) == Err(DataFault::Invalid));

@@ -1,7 +1,7 @@
 use waf_plain::{Bytes, NoMemory};
 
 /// A typed value. In the order of SPOP's types: 0 is `Null`, 9 is `Binary`.
-#[derive(Debug, PartialEq, Drop)]
+#[derive(Clone, Debug, PartialEq, Drop)]
 pub enum Data {
     Null,
     Bool(bool),
@@ -16,7 +16,7 @@ pub enum Data {
 }
 
 /// A value and its name, as an argument of a message or a key of a HELLO.
-#[derive(Debug, PartialEq, Drop)]
+#[derive(Clone, Debug, PartialEq, Drop)]
 pub struct Pair {
     pub name: Bytes,
     pub value: Data,

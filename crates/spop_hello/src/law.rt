@@ -13,5 +13,6 @@ pub fn frames_again()
     ensures in_hello { (t : Terms) → t.size < 2 ^ 32 → all_of pair_at (hello_payload t) ≡ Some (hello_pairs t) }
     ensures leave { (limit status : ℕ) (rest : List ℕ) → status < 2 ^ 32 → 256 ≤ limit
         → head_of limit (disconnect status ++ rest) ≡ Whole (control 102 (disconnect_payload status)) rest }
-    ensures in_leave { (status : ℕ) → status < 2 ^ 32 → all_of pair_at (disconnect_payload status) ≡ Some (disconnect_pairs status) }
+    ensures in_leave { (status : ℕ) → status < 2 ^ 32
+        → all_of pair_at (disconnect_payload status) ≡ Some (disconnect_pairs status) }
 {}

@@ -34,7 +34,8 @@ ghost use Rattle.spop_hello.specs.Terms.{Settles, agreed, offered, sized, terms_
 #[tactic(auto, unfolding(crate::specs::Terms::terms_of))]
 pub fn negotiate(alloc: Global, payload: &[u8], own_size: u32) -> Result<Terms, Refuse>
     ensures exact { Settles result (terms_of own_size payload.now) }
-    ensures refused { (status : ℕ) → IsErrOf result (Refuse.Status status) → (4 ≤ status) × (status ≤ 9) }
+    ensures refused { (status : ℕ) → IsErrOf result (Refuse.Status status)
+        → (4 ≤ status) × (status ≤ 9) }
 {
     match pairs_in(alloc, payload) {
         Err(DataFault::Invalid) => Err(Refuse::Status(4)),
@@ -64,7 +65,8 @@ fn settle(
     capabilities: Option<&[u8]>,
     check: bool,
 ) -> Result<Terms, u32>
-    ensures { result ≡ offered own_size (option_copied versions.entry) size (option_copied capabilities.entry) check }
+    ensures { result
+        ≡ offered own_size (option_copied versions.entry) size (option_copied capabilities.entry) check }
 {
     let Some(versions) = versions else {
         return Err(5);

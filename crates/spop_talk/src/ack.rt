@@ -1,12 +1,20 @@
 ghost use Rattle.std.specs.Prelude.{◌≡◌, ◌++◌, ◌<◌, IfOk, IsErrOf, List, OnErr, OnOk, ℕ, length};
 
 use spop_data::{Data, write_data, write_text};
+use spop_frame::kind;
 use spop_varint::write_varint;
 use std::alloc::Global;
 use waf_plain::{Bytes, NoMemory, Seq};
 
+// The action SET-VAR, its number of arguments, and the scope of a transaction (SPOE.txt, 3.4).
+const SET_VAR: u8 = 1;
+
+const ARGUMENTS: u8 = 3;
+
+const TRANSACTION: u8 = 2;
+
 /// Sets a variable of the transaction (SPOE.txt, 3.4).
-#[derive(Debug, PartialEq, Drop)]
+#[derive(Clone, Debug, PartialEq, Drop)]
 pub struct Action {
     pub name: Bytes,
     pub value: Data,
@@ -48,7 +56,8 @@ pub fn write_ack(
     out: &mut Bytes,
 ) -> Result<(), AckFault>
     ensures ok { OnOk result (out.new ≡ out.old ++ ack stream frame actions.now) }
-    ensures spelled { OnOk result (SpellsFrame (ack stream frame actions.now) (ack_frame stream frame actions.now)) }
+    ensures spelled { OnOk result
+        (SpellsFrame (ack stream frame actions.now) (ack_frame stream frame actions.now)) }
     ensures too_big { (n : ℕ) → IsErrOf result (AckFault.TooBig n)
         → (size < n) × (n ≡ length (ack_body stream frame actions.now)) }
     ensures never { size < length (ack_body stream frame actions.now) → OnOk result ⊥ }
@@ -72,7 +81,7 @@ pub fn write_ack(
 fn body_of(alloc: Global, stream: u64, frame: u64, actions: &[Action]) -> Result<Bytes, NoMemory>
     ensures { IfOk result (λ body. body ≡ ack_body stream frame actions.now) }
 {
-    let mut body = Bytes::copy(alloc, &[103, 0, 0, 0, 1])?;
+    let mut body = Bytes::copy(alloc, &[kind::ACK, 0, 0, 0, 1])?;
     put_varint(stream, &mut body)?;
     put_varint(frame, &mut body)?;
     put_actions(actions, &mut body)?;
@@ -95,11 +104,11 @@ fn put_actions(actions: &[Action], out: &mut Bytes) -> Result<(), NoMemory>
     Ok(())
 }
 
-// SET-VAR with its three arguments, scope TRANSACTION, and these.
+// The type of the action, how many arguments it has, and these: a scope, the name and the value.
 fn put_action(action: &Action, out: &mut Bytes) -> Result<(), NoMemory>
     ensures ok { OnOk result (out.new ≡ out.old ++ action_bytes action.now) }
 {
-    out.append(&[1, 3, 2])?;
+    out.append(&[SET_VAR, ARGUMENTS, TRANSACTION])?;
     write_text(action.name.as_slice(), out)?;
     write_data(&action.value, out)
 }

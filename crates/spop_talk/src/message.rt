@@ -5,7 +5,7 @@ use std::alloc::Global;
 use waf_plain::{Bytes, Seq};
 
 /// A message of a NOTIFY: its name and its arguments in the order in which they came.
-#[derive(Debug, PartialEq, Drop)]
+#[derive(Clone, Debug, PartialEq, Drop)]
 pub struct Message {
     pub name: Bytes,
     pub args: Seq<Pair>,
