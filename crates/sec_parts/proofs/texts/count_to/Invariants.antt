@@ -1,0 +1,12 @@
+use Rattle.std.proofs.Common.{◌≡◌, ◌≤◌, ◌+◌, ◌-◌, length, drop}
+use Rattle.sec_parts.specs.Texts.{to_byte}
+use Rattle.sec_parts.proofs.texts.count_to.Given as goal
+
+abbrev pub invariant-loop-count : goal.invariant-loop-count
+invariant-loop-count l = record {
+  counted : l.count + to_byte l.byte (drop l.count l.text) ≡ to_byte l.byte l.text;
+  within : l.count ≤ length l.text;
+}
+
+abbrev pub decreases-loop-count : goal.decreases-loop-count
+decreases-loop-count l = length l.text - l.count

@@ -1,0 +1,13 @@
+pub mod Actions
+pub mod Acts
+pub mod Changes
+pub mod Kinds
+pub mod Macros
+pub mod Numbers
+pub mod Operators
+pub mod Phrases
+pub mod Pieces
+pub mod Results
+pub mod Targets
+pub mod Texts
+pub mod Variables

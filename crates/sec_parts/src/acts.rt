@@ -1,0 +1,184 @@
+ghost use Rattle.std.specs.Prelude.{◌≡◌, IfOk};
+ghost use Rattle.sec_parts.specs.Results.{Gives};
+ghost use Rattle.sec_parts.specs.Acts.{actions_in, added, no_acts, repeats, with_action, with_piece};
+
+use crate::actions::{Action, read_action};
+use crate::faults::{Refusal, bad_word};
+use crate::kinds::Stand;
+use crate::pieces::{Piece, read_piece};
+use sec_ast::{Ctl, Disrupt, Macro, SetVar, Transform};
+use std::alloc::Global;
+use waf_plain::{Bytes, NoMemory, Seq};
+
+/// What a list of actions says. What it does not name is `None`, empty, 0 or `false`; so is the
+/// disruptive action where the last that it names is `block`.
+#[derive(Debug, PartialEq, Drop)]
+pub struct Acts {
+    pub id: Option<u32>,
+    pub phase: Option<u8>,
+    pub msg: Macro,
+    pub logdata: Macro,
+    pub tags: Seq<Bytes>,
+    pub log: Option<bool>,
+    pub disrupt: Option<Disrupt>,
+    pub status: Option<u32>,
+    pub skip: u32,
+    pub skip_after: Option<Bytes>,
+    pub chain: bool,
+    pub transforms: Seq<Transform>,
+    pub capture: bool,
+    pub multi: bool,
+    pub setvars: Seq<SetVar>,
+    pub ctls: Seq<Ctl>,
+}
+
+fn nothing_said(alloc: Global) -> Acts
+    ensures { result ≡ no_acts }
+{
+    Acts {
+        id: None,
+        phase: None,
+        msg: Seq::new(alloc),
+        logdata: Seq::new(alloc),
+        tags: Seq::new(alloc),
+        log: None,
+        disrupt: None,
+        status: None,
+        skip: 0,
+        skip_after: None,
+        chain: false,
+        transforms: Seq::new(alloc),
+        capture: false,
+        multi: false,
+        setvars: Seq::new(alloc),
+        ctls: Seq::new(alloc),
+    }
+}
+
+// One more action, whatever stood before it.
+fn add_action(alloc: Global, action: Action, acts: Acts) -> Result<Acts, NoMemory>
+    ensures { IfOk result (λ a. a ≡ with_action action acts) }
+{
+    let mut acts = acts;
+    match action {
+        Action::Id(id) => {
+            acts.id = Some(id);
+            Ok(acts)
+        }
+        Action::Phase(phase) => {
+            acts.phase = Some(phase);
+            Ok(acts)
+        }
+        Action::Msg(text) => {
+            acts.msg = text;
+            Ok(acts)
+        }
+        Action::Logdata(text) => {
+            acts.logdata = text;
+            Ok(acts)
+        }
+        Action::Tag(tag) => {
+            acts.tags.push(tag)?;
+            Ok(acts)
+        }
+        Action::Log(is_logged) => {
+            acts.log = Some(is_logged);
+            Ok(acts)
+        }
+        Action::Disrupt(disrupt) => {
+            acts.disrupt = Some(disrupt);
+            Ok(acts)
+        }
+        Action::Block => {
+            acts.disrupt = None;
+            Ok(acts)
+        }
+        Action::Status(status) => {
+            acts.status = Some(status);
+            Ok(acts)
+        }
+        Action::Skip(skip) => {
+            acts.skip = skip;
+            Ok(acts)
+        }
+        Action::SkipAfter(label) => {
+            acts.skip_after = Some(label);
+            Ok(acts)
+        }
+        Action::Chain => {
+            acts.chain = true;
+            Ok(acts)
+        }
+        Action::NoTransforms => {
+            acts.transforms = Seq::new(alloc);
+            Ok(acts)
+        }
+        Action::Transform(transform) => {
+            acts.transforms.push(transform)?;
+            Ok(acts)
+        }
+        Action::Capture => {
+            acts.capture = true;
+            Ok(acts)
+        }
+        Action::MultiMatch => {
+            acts.multi = true;
+            Ok(acts)
+        }
+        Action::SetVar(setvar) => {
+            acts.setvars.push(setvar)?;
+            Ok(acts)
+        }
+        Action::Ctl(ctl) => {
+            acts.ctls.push(ctl)?;
+            Ok(acts)
+        }
+        Action::Nothing => Ok(acts),
+    }
+}
+
+fn stands_again(action: &Action, acts: &Acts) -> bool
+    ensures { result ≡ repeats action.now acts.now }
+{
+    match action {
+        Action::Id(_) => acts.id.is_some(),
+        _ => false,
+    }
+}
+
+fn add_checked(alloc: Global, piece: &[u8], action: Action, acts: Acts) -> Result<Acts, Refusal>
+    ensures { Gives (λ a. a) result (added piece.now action acts) }
+{
+    if stands_again(&action, &acts) {
+        return Err(bad_word(alloc, piece));
+    }
+    let acts = add_action(alloc, action, acts)?;
+    Ok(acts)
+}
+
+#[tactic(auto, unfolding(crate::specs::Acts::with_piece))]
+fn add_piece(alloc: Global, stand: Stand, piece: &Piece, acts: Acts) -> Result<Acts, Refusal>
+    ensures { Gives (λ a. a) result (with_piece stand piece.now acts) }
+{
+    let action = read_action(alloc, stand, piece)?;
+    add_checked(alloc, piece.text.as_slice(), action, acts)
+}
+
+/// What a list of actions says, its pieces parted by commas. A single quote that does not close is
+/// `OpenQuote` with the piece up to the end; the name of an action or transformation that is left
+/// out is `RefusedByName` with that name, and so is a lasting collection in `setvar` and a removal
+/// by message in `ctl`, with the value; all else outside its form is `BadWord` with the piece. A
+/// macro has its own faults.
+#[tactic(auto, unfolding(crate::specs::Acts::actions_in))]
+pub fn read_actions(alloc: Global, stand: Stand, text: &[u8]) -> Result<Acts, Refusal>
+    ensures { Gives (λ a. a) result (actions_in stand text.now) }
+{
+    let mut acts = nothing_said(alloc);
+    let mut rest = Some(text);
+    while let Some(here) = rest {
+        let (piece, after) = read_piece(alloc, here)?;
+        acts = add_piece(alloc, stand, &piece, acts)?;
+        rest = after;
+    }
+    Ok(acts)
+}

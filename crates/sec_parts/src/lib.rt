@@ -1,0 +1,31 @@
+//! The parts of a directive of rules, read from its words: macros, lists of targets, operators and
+//! lists of actions. Each answers what it says, or its first fault from the left with the word in
+//! which that is.
+#![tactic(auto)]
+
+mod actions;
+mod acts;
+mod changes;
+mod controls;
+mod faults;
+mod kinds;
+mod macros;
+mod numbers;
+mod operators;
+mod phrases;
+mod pieces;
+mod targets;
+#[cfg(test)]
+mod tests;
+mod texts;
+mod variables;
+
+pub use acts::{Acts, read_actions};
+pub use controls::{read_id_range, read_identifier, read_switch};
+pub use faults::{Bad, Flaw, Refusal};
+pub use kinds::Stand;
+pub use macros::{one_reading_of_a_macro, read_macro};
+pub use numbers::read_number;
+pub use operators::{Operator, read_operator};
+pub use phrases::one_reading_of_words;
+pub use targets::read_targets;
