@@ -1,0 +1,11 @@
+//! The operators of rules: built once, and asked of many values.
+#![tactic(auto)]
+
+mod built;
+mod escapes;
+mod numbers;
+mod pattern;
+mod phrases;
+mod ranges;
+
+pub use built::{BuildFault, Built, Hit, build, holds};
