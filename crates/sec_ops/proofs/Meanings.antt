@@ -1,5 +1,5 @@
 -- A built operator means what its operator means.
-use Rattle.std.proofs.Common.{◌≡◌, ◌≢◌, ℕ, ◌<◌, List, [], length, get_or, true, false, refl, sym, ap, ◌∙◌, Option, Some, None, option_map, option_and_then, Result, Ok, Err}
+use Rattle.std.proofs.Common.{◌≡◌, ◌≢◌, ℕ, List, [], length, true, false, refl, ap, ◌∙◌, Option, None, option_map, Result, Ok, Err}
 use Rattle.std.specs.Prelude.{IsSome, IfOk}
 use Rattle.std.specs.Str.{IsUtf8, is_utf8}
 use Rattle.std.proofs.lemmas.Str.{is_utf8-from_IsUtf8}

@@ -1,5 +1,5 @@
 -- What an operator finds in a value: nothing, or the texts of its groups.
-use Rattle.std.specs.Prelude.{ℕ, Bool, true, false, not, cond, List, [], ◌∷◌, map, length, Option, Some, None, is_some, option_and_then, nat_eq, ◌<◌, get_or}
+use Rattle.std.specs.Prelude.{ℕ, Bool, true, false, not, cond, List, [], ◌∷◌, map, Option, Some, None, is_some, option_and_then, nat_eq, ◌<◌, get_or}
 use Rattle.std.specs.List.{starts_with, ends_with}
 use Rattle.std.specs.Cmp.Lexicographic.{pointwise}
 use Rattle.std.specs.Option.{option_map}
@@ -10,7 +10,7 @@ use Rattle.regex.specs.Patterns.{Re, find}
 use Rattle.regex_syntax.specs.Grammar.{Names}
 use Rattle.ip_set.specs.Membership.{is_in, is_member}
 use Rattle.sec_ast.specs.declared.operator.OpKind as kinds
-use Rattle.sec_ast.specs.declared.operator.OpKind.TheVariants.{Rx, Pm, Streq, Contains, BeginsWith, EndsWith, Within, Eq, Ge, Gt, Le, Lt, IpMatch, ValidateByteRange, ValidateUrlEncoding, ValidateUtf8Encoding, UnconditionalMatch, NoMatch}
+use Rattle.sec_ast.specs.declared.operator.OpKind.TheVariants.{Rx, Pm, Streq, Contains, BeginsWith, EndsWith, Within, Eq, Ge, Gt, Le, Lt, IpMatch, ValidateByteRange, ValidateUrlEncoding, ValidateUtf8Encoding, UnconditionalMatch}
 use Rattle.sec_ast.specs.declared.operator.Op as ops
 use Rattle.sec_ast.specs.declared.macros.Part as parts
 use Rattle.sec_ast.specs.declared.macros.Part.TheVariants.{Text}

@@ -1,5 +1,5 @@
 -- The first of some phrases in a text.
-use Rattle.std.specs.Prelude.{ℕ, ◌≡◌, ◌+◌, ◌<◌, ◌≤◌, ◌⊎◌, nat_le, nat_lt, ◌==◌, ◌&&◌, ◌||◌, Bool, cond, List, [], length, map, get_or, Option, Some, None, MatchOption, IfSome}
+use Rattle.std.specs.Prelude.{ℕ, ◌≡◌, ◌+◌, ◌<◌, ◌≤◌, ◌⊎◌, nat_le, nat_lt, ◌==◌, ◌&&◌, ◌||◌, cond, List, [], length, map, get_or, Option, Some, None, MatchOption, IfSome}
 use Rattle.std.specs.Char.{to_ascii_lowercase}
 use Rattle.std.specs.List.{fold}
 use Rattle.std.specs.Option.{option_map}

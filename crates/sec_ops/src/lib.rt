@@ -7,5 +7,7 @@ mod numbers;
 mod pattern;
 mod phrases;
 mod ranges;
+#[cfg(test)]
+mod tests;
 
 pub use built::{BuildFault, Built, Hit, build, holds};

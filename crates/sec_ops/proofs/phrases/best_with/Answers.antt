@@ -1,6 +1,5 @@
-use Rattle.std.proofs.Common.{◌+◌, ℕ, List, length, ap, subst, sym, ◌∙◌, refl, Some, None, Option}
+use Rattle.std.proofs.Common.{◌+◌, ℕ, List, length, ap, subst, refl, Some, None}
 use Rattle.memchr.specs.Find.{FindsNeedle}
-use Rattle.sec_ops.specs.Phrases.{better}
 use Rattle.sec_ops.proofs.Earliest.{passed, added}
 use Rattle.sec_ops.proofs.phrases.best_with.Goals as goal
 

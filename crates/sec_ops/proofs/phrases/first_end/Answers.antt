@@ -1,4 +1,4 @@
-use Rattle.std.proofs.Common.{◌≡◌, ◌∙◌, ℕ, List, [], length, get_or, refl, subst, arith}
+use Rattle.std.proofs.Common.{◌≡◌, ◌∙◌, ℕ, [], length, get_or, refl, subst, arith}
 use Rattle.sec_ops.specs.Phrases.{IsFirstEnd, first_end}
 use Rattle.sec_ops.proofs.Earliest.{same_item, first_end_turn}
 use Rattle.sec_ops.proofs.phrases.first_end.Goals as goal

@@ -1,6 +1,5 @@
-use Rattle.std.proofs.Common.{◌≡◌, None, take}
-use Rattle.std.specs.List.{fold}
-use Rattle.sec_ops.specs.Phrases.{IsFirstEnd, better, span_of, first_end}
+use Rattle.std.proofs.Common.{◌≡◌, take}
+use Rattle.sec_ops.specs.Phrases.{IsFirstEnd, first_end}
 use Rattle.sec_ops.proofs.phrases.first_end.Given as goal
 
 abbrev pub invariant-loop-phrase : goal.invariant-loop-phrase
