@@ -1,6 +1,7 @@
 ghost use Rattle.std.specs.Prelude.{◌≡◌, List, ℕ, OnOk, IsTrue, ◌↔◌, IfOk, Err};
 ghost use Rattle.std.specs.List.{AllZip};
 ghost use Rattle.ip_set.specs.Blocks.{IsWord, IsMember, IsIn, IsFirstBad};
+ghost use Rattle.ip_set.specs.Membership.{is_in, is_member};
 
 use crate::Block;
 use std::alloc::Global;
@@ -37,6 +38,7 @@ impl IpSet {
     pub fn read(alloc: Global, words: &Seq<Bytes>) -> Result<IpSet, IpFault>
         ensures ok { IfOk result (λ set. AllZip IsWord words.now set) }
         ensures members { IfOk result (λ set. (text : List ℕ) → IsMember set text ↔ IsIn words.now text) }
+        ensures test { IfOk result (λ set. (text : List ℕ) → is_member set text ≡ is_in words.now text) }
         ensures bad { (at : ℕ) → result ≡ Err (IpFault.Bad at) → IsFirstBad words.now at }
 
         // A word that names nothing never gives a set.
@@ -58,18 +60,27 @@ impl IpSet {
 
     /// Whether a text is an address, as std reads one, that the set covers. It takes no memory.
     pub fn contains(&self, text: &[u8]) -> bool
-        ensures { IsTrue result ↔ IsMember self.now text.now }
+        ensures member { IsTrue result ↔ IsMember self.now text.now }
+
+        // The same as a test that computes, for definitions that ask it.
+        ensures test { result ≡ is_member self.now text.now }
     {
-        let Ok(ip) = IpAddr::parse_ascii(text) else {
-            return false;
-        };
-        for block in self.blocks.as_slice() {
-            if block.covers(ip) {
-                return true;
-            }
-        }
-        false
+        is_covered(self.blocks.as_slice(), text)
     }
+}
+
+fn is_covered(blocks: &[Block], text: &[u8]) -> bool
+    ensures { IsTrue result ↔ IsMember blocks.now text.now }
+{
+    let Ok(ip) = IpAddr::parse_ascii(text) else {
+        return false;
+    };
+    for block in blocks {
+        if block.covers(ip) {
+            return true;
+        }
+    }
+    false
 }
 
 #[cfg(test)]

@@ -18,7 +18,7 @@ fn all_give(alloc: Global, name: Transform, rows: &[(&[u8], &[u8])]) -> Result<b
 
 // The texts on the right were made by a program in another language.
 #[test]
-fn each_transformation(rt: HostRuntime) -> Result<(), Fail> {
+fn encodings(rt: HostRuntime) -> Result<(), Fail> {
     let alloc = rt.alloc();
     let rows = [
         (b"".as_slice(), b"".as_slice()),
@@ -43,30 +43,6 @@ fn each_transformation(rt: HostRuntime) -> Result<(), Fail> {
     assert!(rt; all_give(alloc, Transform::Base64Encode, &rows)?);
     let rows = [
         (b"".as_slice(), b"".as_slice()),
-        (b"c^md /C  \"dir;x\"".as_slice(), b"cmd/c dir x".as_slice()),
-        (
-            b"C^MD,;  /c \"DIR\" (x".as_slice(),
-            b"cmd/c dir(x".as_slice(),
-        ),
-        (b" \x09\x0d\x0a a".as_slice(), b" a".as_slice()),
-        (b"a \x0b\xa0/ ".as_slice(), b"a \x0b\xa0/ ".as_slice()),
-        (b"\\".as_slice(), b"".as_slice()),
-        (b"\x00\xff,".as_slice(), b"\x00\xff ".as_slice()),
-    ];
-    assert!(rt; all_give(alloc, Transform::CmdLine, &rows)?);
-    let rows = [
-        (b"".as_slice(), b"".as_slice()),
-        (b"a \x09\x0b\xa0b  ".as_slice(), b"a b ".as_slice()),
-        (b"\xa0".as_slice(), b" ".as_slice()),
-        (b"\x00\xff a".as_slice(), b"\x00\xff a".as_slice()),
-    ];
-    assert!(rt; all_give(alloc, Transform::CompressWhitespace, &rows)?);
-    let rows = [(b"\\ja\\00f".as_slice(), b"ja\x0f".as_slice())];
-    assert!(rt; all_give(alloc, Transform::CssDecode, &rows)?);
-    let rows = [(b"\\101\\x".as_slice(), b"Ax".as_slice())];
-    assert!(rt; all_give(alloc, Transform::EscapeSeqDecode, &rows)?);
-    let rows = [
-        (b"".as_slice(), b"".as_slice()),
         (b"4142fF".as_slice(), b"AB\xff".as_slice()),
         (b"414".as_slice(), b"414".as_slice()),
         (b"41 42".as_slice(), b"41 42".as_slice()),
@@ -79,25 +55,11 @@ fn each_transformation(rt: HostRuntime) -> Result<(), Fail> {
         (b"AB\x00\xff".as_slice(), b"414200ff".as_slice()),
     ];
     assert!(rt; all_give(alloc, Transform::HexEncode, &rows)?);
-    let rows = [(b"&lt;&#97;&#x62;&amp".as_slice(), b"<ab&".as_slice())];
-    assert!(rt; all_give(alloc, Transform::HtmlEntityDecode, &rows)?);
-    let rows = [(b"\\x41\\101\\u0042\\q".as_slice(), b"AABq".as_slice())];
-    assert!(rt; all_give(alloc, Transform::JsDecode, &rows)?);
     let rows = [
         (b"".as_slice(), b"0".as_slice()),
         (b"0123456789\x00".as_slice(), b"11".as_slice()),
     ];
     assert!(rt; all_give(alloc, Transform::Length, &rows)?);
-    let rows = [
-        (b"".as_slice(), b"".as_slice()),
-        (b"AZaz[@\xc4\x00".as_slice(), b"azaz[@\xc4\x00".as_slice()),
-    ];
-    assert!(rt; all_give(alloc, Transform::Lowercase, &rows)?);
-    let rows = [
-        (b"".as_slice(), b"".as_slice()),
-        (b"AZaz`{\xe4\x00".as_slice(), b"AZAZ`{\xe4\x00".as_slice()),
-    ];
-    assert!(rt; all_give(alloc, Transform::Uppercase, &rows)?);
     let rows = [
         (
             b"".as_slice(),
@@ -120,6 +82,91 @@ fn each_transformation(rt: HostRuntime) -> Result<(), Fail> {
         ),
     ];
     assert!(rt; all_give(alloc, Transform::Sha1, &rows)?);
+    let rows = [
+        (b"".as_slice(), b"".as_slice()),
+        (b"a+b%2B%41%4%zz%".as_slice(), b"a b+A%4%zz%".as_slice()),
+        (
+            b"%u0041%2541%00%ff\x00\xff".as_slice(),
+            b"%u0041%41\x00\xff\x00\xff".as_slice(),
+        ),
+    ];
+    assert!(rt; all_give(alloc, Transform::UrlDecode, &rows)?);
+    Ok(())
+}
+
+#[test]
+fn alphabets_and_whitespace(rt: HostRuntime) -> Result<(), Fail> {
+    let alloc = rt.alloc();
+    let rows = [
+        (b"".as_slice(), b"".as_slice()),
+        (b"AZaz[@\xc4\x00".as_slice(), b"azaz[@\xc4\x00".as_slice()),
+    ];
+    assert!(rt; all_give(alloc, Transform::Lowercase, &rows)?);
+    let rows = [
+        (b"".as_slice(), b"".as_slice()),
+        (b"AZaz`{\xe4\x00".as_slice(), b"AZAZ`{\xe4\x00".as_slice()),
+    ];
+    assert!(rt; all_give(alloc, Transform::Uppercase, &rows)?);
+    let rows = [
+        (b"".as_slice(), b"".as_slice()),
+        (b"\x00a\x00\xff".as_slice(), b"a\xff".as_slice()),
+    ];
+    assert!(rt; all_give(alloc, Transform::RemoveNulls, &rows)?);
+    let rows = [
+        (b"".as_slice(), b"".as_slice()),
+        (b"\x00a\x00\xff".as_slice(), b" a \xff".as_slice()),
+    ];
+    assert!(rt; all_give(alloc, Transform::ReplaceNulls, &rows)?);
+    let rows = [
+        (b"".as_slice(), b"".as_slice()),
+        (b"a \x09\x0b\xa0b  ".as_slice(), b"a b ".as_slice()),
+        (b"\xa0".as_slice(), b" ".as_slice()),
+        (b"\x00\xff a".as_slice(), b"\x00\xff a".as_slice()),
+    ];
+    assert!(rt; all_give(alloc, Transform::CompressWhitespace, &rows)?);
+    let rows = [
+        (b"".as_slice(), b"".as_slice()),
+        (b" a\xa0\x0bb\x00".as_slice(), b"ab\x00".as_slice()),
+    ];
+    assert!(rt; all_give(alloc, Transform::RemoveWhitespace, &rows)?);
+    let rows = [
+        (b"".as_slice(), b"".as_slice()),
+        (b" \x0ba b\x09 ".as_slice(), b"a b".as_slice()),
+        (b" \x0d\x0a".as_slice(), b"".as_slice()),
+        (b"\xa0 a".as_slice(), b"\xa0 a".as_slice()),
+    ];
+    assert!(rt; all_give(alloc, Transform::Trim, &rows)?);
+    let rows = [
+        (b"".as_slice(), b"".as_slice()),
+        (b" \x0ba b\x09 ".as_slice(), b"a b\x09 ".as_slice()),
+        (b" \x0d\x0a".as_slice(), b"".as_slice()),
+    ];
+    assert!(rt; all_give(alloc, Transform::TrimLeft, &rows)?);
+    let rows = [
+        (b"".as_slice(), b"".as_slice()),
+        (b" \x0ba b\x09 ".as_slice(), b" \x0ba b".as_slice()),
+        (b" \x0d\x0a".as_slice(), b"".as_slice()),
+    ];
+    assert!(rt; all_give(alloc, Transform::TrimRight, &rows)?);
+    Ok(())
+}
+
+#[test]
+fn commands_paths_and_comments(rt: HostRuntime) -> Result<(), Fail> {
+    let alloc = rt.alloc();
+    let rows = [
+        (b"".as_slice(), b"".as_slice()),
+        (b"c^md /C  \"dir;x\"".as_slice(), b"cmd/c dir x".as_slice()),
+        (
+            b"C^MD,;  /c \"DIR\" (x".as_slice(),
+            b"cmd/c dir(x".as_slice(),
+        ),
+        (b" \x09\x0d\x0a a".as_slice(), b" a".as_slice()),
+        (b"a \x0b\xa0/ ".as_slice(), b"a \x0b\xa0/ ".as_slice()),
+        (b"\\".as_slice(), b"".as_slice()),
+        (b"\x00\xff,".as_slice(), b"\x00\xff ".as_slice()),
+    ];
+    assert!(rt; all_give(alloc, Transform::CmdLine, &rows)?);
     let rows = [
         (b"".as_slice(), b"".as_slice()),
         (b"/".as_slice(), b"/".as_slice()),
@@ -153,16 +200,6 @@ fn each_transformation(rt: HostRuntime) -> Result<(), Fail> {
     assert!(rt; all_give(alloc, Transform::RemoveCommentsChar, &rows)?);
     let rows = [
         (b"".as_slice(), b"".as_slice()),
-        (b"\x00a\x00\xff".as_slice(), b"a\xff".as_slice()),
-    ];
-    assert!(rt; all_give(alloc, Transform::RemoveNulls, &rows)?);
-    let rows = [
-        (b"".as_slice(), b"".as_slice()),
-        (b" a\xa0\x0bb\x00".as_slice(), b"ab\x00".as_slice()),
-    ];
-    assert!(rt; all_give(alloc, Transform::RemoveWhitespace, &rows)?);
-    let rows = [
-        (b"".as_slice(), b"".as_slice()),
         (b"a/*b*/c/*d".as_slice(), b"a c ".as_slice()),
         (b"a/*b*/c/*/d*/e/*f".as_slice(), b"a c e ".as_slice()),
         (b"/*".as_slice(), b" ".as_slice()),
@@ -170,39 +207,20 @@ fn each_transformation(rt: HostRuntime) -> Result<(), Fail> {
         (b"\x00/*\xff*/\x00".as_slice(), b"\x00 \x00".as_slice()),
     ];
     assert!(rt; all_give(alloc, Transform::ReplaceComments, &rows)?);
-    let rows = [
-        (b"".as_slice(), b"".as_slice()),
-        (b"\x00a\x00\xff".as_slice(), b" a \xff".as_slice()),
-    ];
-    assert!(rt; all_give(alloc, Transform::ReplaceNulls, &rows)?);
-    let rows = [
-        (b"".as_slice(), b"".as_slice()),
-        (b" \x0ba b\x09 ".as_slice(), b"a b".as_slice()),
-        (b" \x0d\x0a".as_slice(), b"".as_slice()),
-        (b"\xa0 a".as_slice(), b"\xa0 a".as_slice()),
-    ];
-    assert!(rt; all_give(alloc, Transform::Trim, &rows)?);
-    let rows = [
-        (b"".as_slice(), b"".as_slice()),
-        (b" \x0ba b\x09 ".as_slice(), b"a b\x09 ".as_slice()),
-        (b" \x0d\x0a".as_slice(), b"".as_slice()),
-    ];
-    assert!(rt; all_give(alloc, Transform::TrimLeft, &rows)?);
-    let rows = [
-        (b"".as_slice(), b"".as_slice()),
-        (b" \x0ba b\x09 ".as_slice(), b" \x0ba b".as_slice()),
-        (b" \x0d\x0a".as_slice(), b"".as_slice()),
-    ];
-    assert!(rt; all_give(alloc, Transform::TrimRight, &rows)?);
-    let rows = [
-        (b"".as_slice(), b"".as_slice()),
-        (b"a+b%2B%41%4%zz%".as_slice(), b"a b+A%4%zz%".as_slice()),
-        (
-            b"%u0041%2541%00%ff\x00\xff".as_slice(),
-            b"%u0041%41\x00\xff\x00\xff".as_slice(),
-        ),
-    ];
-    assert!(rt; all_give(alloc, Transform::UrlDecode, &rows)?);
+    Ok(())
+}
+
+#[test]
+fn decoders(rt: HostRuntime) -> Result<(), Fail> {
+    let alloc = rt.alloc();
+    let rows = [(b"\\ja\\00f".as_slice(), b"ja\x0f".as_slice())];
+    assert!(rt; all_give(alloc, Transform::CssDecode, &rows)?);
+    let rows = [(b"\\101\\x".as_slice(), b"Ax".as_slice())];
+    assert!(rt; all_give(alloc, Transform::EscapeSeqDecode, &rows)?);
+    let rows = [(b"&lt;&#97;&#x62;&amp".as_slice(), b"<ab&".as_slice())];
+    assert!(rt; all_give(alloc, Transform::HtmlEntityDecode, &rows)?);
+    let rows = [(b"\\x41\\101\\u0042\\q".as_slice(), b"AABq".as_slice())];
+    assert!(rt; all_give(alloc, Transform::JsDecode, &rows)?);
     let rows = [(b"%u0041%uff21+%4".as_slice(), b"AA %4".as_slice())];
     assert!(rt; all_give(alloc, Transform::UrlDecodeUni, &rows)?);
     let rows = [(b"caf\xc3\xa9".as_slice(), b"caf%u00e9".as_slice())];

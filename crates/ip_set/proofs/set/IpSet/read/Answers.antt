@@ -4,6 +4,7 @@ use Rattle.std.proofs.lemmas.List.{take_all}
 use Rattle.ip_set.specs.declared.block.Block.{Block}
 use Rattle.ip_set.specs.Blocks.{IsWord}
 use Rattle.ip_set.proofs.Words.{zip_turn, good_turn, same_members, none_bad}
+use Rattle.ip_set.proofs.Computed.{same_test}
 use Rattle.ip_set.proofs.set.IpSet.read.Goals as goal
 
 pub loop-at-preserved : goal.loop-at-preserved
@@ -25,6 +26,9 @@ pub returns-clause-members : goal.returns-clause-members
 returns-clause-members c =
     same_members c.args.words.now c.from_vec.result
     (rw c.from_vec.ensures (all_read c.args.words.now c.as_slice-word-items.result.now c.loop-at.blocks.items c.loop-at.at c.as_slice-word-items.ensures (omega arith) c.loop-at.invariant.zip))
+
+pub returns-clause-test : goal.returns-clause-test
+returns-clause-test c = same_test c.args.words.now c.from_vec.result (returns-clause-members c)
 
 pub returns-clause-refused : goal.returns-clause-refused
 returns-clause-refused c = λ at bad.

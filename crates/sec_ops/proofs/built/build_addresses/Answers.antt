@@ -1,0 +1,7 @@
+use Rattle.std.proofs.Common.{ap}
+use Rattle.sec_ops.specs.Hits.{hit_of, when}
+use Rattle.sec_ops.proofs.built.build_addresses.Goals as goal
+
+pub returns-in-Ok-clause-ok : goal.returns-in-Ok-clause-ok
+unfolding hit_of
+returns-in-Ok-clause-ok c = λ argument value. ap when (c.in-Ok.ensures.test value)

@@ -1,0 +1,6 @@
+pub mod Escapes
+pub mod Hits
+pub mod Number
+pub mod Pattern
+pub mod Phrases
+pub mod Ranges

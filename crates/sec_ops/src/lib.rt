@@ -1,0 +1,13 @@
+//! The operators of rules: built once, and asked of many values.
+#![tactic(auto)]
+
+mod built;
+mod escapes;
+mod numbers;
+mod pattern;
+mod phrases;
+mod ranges;
+#[cfg(test)]
+mod tests;
+
+pub use built::{BuildFault, Built, Hit, build, holds};

@@ -1,0 +1,119 @@
+ghost use Rattle.std.specs.Prelude.{◌≡◌, ◌-◌, IfOk, IfErr, IsSome, None, map, option_map, take, drop, vec_items};
+ghost use Rattle.std.specs.List.{range_with_len};
+ghost use Rattle.regex.specs.Bytes.{IsReadFromSource, group_count, regex_config, regex_pattern, regex_source};
+ghost use Rattle.regex.specs.Locations.{location, location_count};
+ghost use Rattle.regex.specs.Patterns.{find};
+ghost use Rattle.sec_ops.specs.Pattern.{between, reading_of, rule_config, spans_of, texts_in};
+
+use crate::BuildFault;
+use regex::bytes::Regex;
+use regex::{CaptureLocations, Error, RegexBuilder};
+use std::alloc::Global;
+use waf_plain::{Bytes, NoMemory, Seq};
+
+/// Compiles a pattern with `.` matching line ends and everything else at its default.
+pub(crate) fn compile(alloc: Global, source: &str) -> Result<Regex, BuildFault>
+    ensures source { IfOk result (λ r. regex_source r ≡ source.now) }
+    ensures config { IfOk result (λ r. regex_config r ≡ rule_config) }
+    ensures read { IfOk result IsReadFromSource }
+    ensures has_reading { IfOk result (λ _. IsSome (reading_of source.now)) }
+    ensures bad { IfErr result (λ e. e ≡ BuildFault.BadPattern → reading_of source.now ≡ None) }
+{
+    let builder = RegexBuilder::new(source).dot_matches_new_line(true);
+    match builder.build_bytes(alloc) {
+        Ok(regex) => Ok(regex),
+        Err(Error::Syntax(_)) => Err(BuildFault::BadPattern),
+        Err(_) => Err(BuildFault::NoMemory),
+    }
+}
+
+/// A span for each group that took part.
+type Spans = Vec<Option<(usize, usize)>>;
+
+fn spans(alloc: Global, locations: &CaptureLocations) -> Result<Spans, NoMemory>
+    ensures { IfOk result (λ v. v.items ≡ map (location locations.now) (range_with_len 0 (location_count locations.now))) }
+{
+    let mut spans = Vec::new(alloc);
+    for k in 0..locations.len() {
+        spans.push(locations.get(k))?;
+    }
+    Ok(spans)
+}
+
+/// The spans of the groups of the first match. The matcher lives for this value alone.
+fn groups_in(alloc: Global, regex: &Regex, value: &[u8]) -> Result<Option<Spans>, NoMemory>
+    ensures { IfOk result (λ g. option_map vec_items g ≡ option_map (spans_of (group_count regex.now)) (find (regex_pattern regex.now) value.now 0)) }
+{
+    let mut matcher = regex.matcher(alloc)?;
+    let mut locations = regex.capture_locations(alloc)?;
+    match matcher.captures_read(&mut locations, value) {
+        None => Ok(None),
+        Some(_) => Ok(Some(spans(alloc, &locations)?)),
+    }
+}
+
+/// The texts of the groups of the first match of a compiled pattern.
+pub(crate) fn texts(
+    alloc: Global,
+    regex: &Regex,
+    value: &[u8],
+) -> Result<Option<Seq<Option<Bytes>>>, NoMemory>
+    ensures { IfOk result (λ g. g ≡ option_map (texts_in value.now) (option_map (spans_of (group_count regex.now)) (find (regex_pattern regex.now) value.now 0))) }
+{
+    match groups_in(alloc, regex, value)? {
+        None => Ok(None),
+        Some(spans) => Ok(Some(texts_of(alloc, spans.as_slice(), value)?)),
+    }
+}
+
+fn texts_of(
+    alloc: Global,
+    spans: &[Option<(usize, usize)>],
+    value: &[u8],
+) -> Result<Seq<Option<Bytes>>, NoMemory>
+    ensures { IfOk result (λ g. g ≡ texts_in value.now spans.now) }
+{
+    let mut texts = Seq::new(alloc);
+    for span in spans {
+        texts.push(text_of(alloc, *span, value)?)?;
+    }
+    Ok(texts)
+}
+
+fn text_of(
+    alloc: Global,
+    span: Option<(usize, usize)>,
+    value: &[u8],
+) -> Result<Option<Bytes>, NoMemory>
+    ensures { IfOk result (λ t. t ≡ option_map (between value.now) span) }
+{
+    match span {
+        None => Ok(None),
+        Some((start, end)) => Ok(Some(Bytes::copy(alloc, part(value, start, end))?)),
+    }
+}
+
+/// The bytes from `start` up to `end`.
+pub(crate) fn part(value: &[u8], start: usize, end: usize) -> &[u8]
+    ensures { result.now ≡ take (end - start) (drop start value.now) }
+{
+    front(behind(value, start), end.saturating_sub(start))
+}
+
+fn behind(value: &[u8], start: usize) -> &[u8]
+    ensures { result.now ≡ drop start value.now }
+{
+    if start > value.len() {
+        return &[];
+    }
+    value.split_at(start).1
+}
+
+fn front(value: &[u8], count: usize) -> &[u8]
+    ensures { result.now ≡ take count value.now }
+{
+    if count > value.len() {
+        return value;
+    }
+    value.split_at(count).0
+}
