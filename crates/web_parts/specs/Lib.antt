@@ -1,0 +1,5 @@
+pub mod AddressText
+pub mod Arguments
+pub mod Cookies
+pub mod Headers
+pub mod Pieces
