@@ -1,0 +1,22 @@
+use Rattle.std.proofs.Common.{◌≡◌, ◌≤◌, ◌-◌, List, ℕ, Some}
+use Rattle.agent_main.specs.RuleSeen.{rule_seen}
+use Rattle.agent_main.specs.Steps.{IsWaiting}
+use Rattle.agent_main.proofs.Serving.{Serving}
+use Rattle.agent_main.proofs.serve.serve.Given as goal
+
+-- what was said so far is what the connection says for what was taken
+abbrev pub invariant-loop-taken : goal.invariant-loop-taken
+invariant-loop-taken g l =
+    let source = g.S.Source in
+    let sink = g.K.Sink in
+    record {
+      told : (input : List ℕ) → source.left l.fn.input ≡ Some input
+          → Serving (rule_seen l.rule) input (source.left l.input) l.taken l.talk (sink.held l.fn.output) (sink.held l.output);
+      waits : IsWaiting l.talk;
+      few : l.taken ≤ 4611686018427387904;
+      reads : source.faults l.fn.input ≤ source.faults l.input;
+      writes : sink.faults l.fn.output ≤ sink.faults l.output;
+    }
+
+abbrev pub decreases-loop-taken : goal.decreases-loop-taken
+decreases-loop-taken g l = 4611686018427387904 - l.taken

@@ -1,0 +1,9 @@
+pub mod Connection
+pub mod Judged
+pub mod Judging
+pub mod Reading
+pub mod Rule
+pub mod RuleSeen
+pub mod Run
+pub mod Steps
+pub mod Words
