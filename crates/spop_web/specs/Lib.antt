@@ -1,6 +1,0 @@
-pub mod Names
-pub mod Reading
-pub mod Refusal
-pub mod Request
-pub mod Response
-pub mod Values
