@@ -1,6 +1,7 @@
-ghost use Rattle.std.specs.Prelude.{◌≡◌, List, ℕ, [], None, IfOk, IfErr, IsSome, is_some, map, nat_eq};
+ghost use Rattle.std.specs.Prelude.{◌≡◌, List, ℕ, [], None, IfOk, IfErr, IsErrOf, IsSome, is_some, map, nat_eq};
 ghost use Rattle.std.specs.Cmp.Lexicographic.{pointwise};
 ghost use Rattle.sec_ast.specs.declared.operator.OpKind.TheVariants.{Rx, Pm, IpMatch, ValidateByteRange};
+ghost use Rattle.ip_set.specs.Blocks.{IsFirstBad};
 ghost use Rattle.sec_ops.specs.Hits.{built_hit, groups_of, has, hit, hit_of, pattern_hit, phrase_hit, plain_test, source_of, source_reading, when, IsBytes};
 
 use crate::escapes::{has_bad_escape, is_text};
@@ -20,7 +21,7 @@ pub enum BuildFault {
     /// The pattern has no reading in the grammar of `regex`, or nests deeper than its bound.
     BadPattern,
     /// No memory; the compiled pattern would pass the size limit of `regex`; or a word of `ipMatch`
-    /// is no address and no block, of which the reader of rules makes none.
+    /// is no address and no block, which no operator that was read from rules has.
     NoMemory,
 }
 
@@ -55,6 +56,9 @@ pub fn build(alloc: Global, op: &Op) -> Result<Built, BuildFault>
     ensures ok { IfOk result (λ built. (argument value : List ℕ) → IsBytes value → built_hit built argument value ≡ hit op.now argument value) }
     ensures bad { IfErr result (λ e. e ≡ BuildFault.BadPattern → (op.now.kind ≡ Rx) × (source_reading (source_of op.now.text) ≡ None)) }
     ensures read { IfOk result (λ _. op.now.kind ≡ Rx → IsSome (source_reading (source_of op.now.text))) }
+
+    // No set of addresses is built of a word that names none.
+    ensures word { (at : ℕ) → op.now.kind ≡ IpMatch → IsFirstBad op.now.words at → IsErrOf result BuildFault.NoMemory }
 {
     match op.kind {
         OpKind::Rx => build_pattern(alloc, source_of(op.text.as_slice())),
@@ -110,6 +114,7 @@ fn build_phrases(alloc: Global, words: &Seq<Bytes>) -> Result<Built, BuildFault>
 fn build_addresses(alloc: Global, words: &Seq<Bytes>) -> Result<Built, BuildFault>
     ensures ok { IfOk result (λ built. (argument value : List ℕ) → built_hit built argument value ≡ hit_of IpMatch [] words.now argument value) }
     ensures err { IfErr result (λ e. e ≡ BuildFault.NoMemory) }
+    ensures word { (at : ℕ) → IsFirstBad words.now at → IsErrOf result BuildFault.NoMemory }
 {
     match IpSet::read(alloc, words) {
         Ok(set) => Ok(Built {

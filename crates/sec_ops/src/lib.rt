@@ -3,6 +3,7 @@
 
 mod built;
 mod escapes;
+mod laws;
 mod numbers;
 mod pattern;
 mod phrases;
@@ -11,3 +12,4 @@ mod ranges;
 mod tests;
 
 pub use built::{BuildFault, Built, Hit, build, holds};
+pub use laws::phrases_end_first;

@@ -18,6 +18,9 @@ pub returns-in-IpMatch-clause-ok : goal.returns-in-IpMatch-clause-ok
 returns-in-IpMatch-clause-ok c =
     let op = c.args.op.now in carried_any c.build_addresses.result (hit_of IpMatch [] op.words) (hit op) (addresses_same op c.in-IpMatch.is) c.build_addresses.ensures.ok
 
+pub returns-in-IpMatch-clause-word : goal.returns-in-IpMatch-clause-word
+returns-in-IpMatch-clause-word c = λ at kind bad. c.build_addresses.ensures.word at bad
+
 pub returns-in-ValidateByteRange-clause-ok : goal.returns-in-ValidateByteRange-clause-ok
 returns-in-ValidateByteRange-clause-ok c =
     let op = c.args.op.now in carried_any c.build_ranges.result (hit_of ValidateByteRange [] op.words) (hit op) (ranges_same op c.in-ValidateByteRange.is) c.build_ranges.ensures.ok
@@ -30,4 +33,5 @@ returns-in_default c =
       ok = λ argument value bytes. plain_hit op.kind (source_of op.text) op.words argument value not.not-Rx not.not-Pm not.not-IpMatch not.not-ValidateByteRange;
       bad = tt;
       read = λ e. absurd (not.not-Rx e);
+      word = λ at kind bad. absurd (not.not-IpMatch kind);
     }
