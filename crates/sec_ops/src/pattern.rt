@@ -1,5 +1,6 @@
-ghost use Rattle.std.specs.Prelude.{◌≡◌, ◌-◌, IfOk, IfErr, IsSome, None, map, option_map, take, drop, vec_items};
+ghost use Rattle.std.specs.Prelude.{◌≡◌, ◌-◌, IfOk, IfErr, IsSome, None, false, map, option_map, take, drop, vec_items};
 ghost use Rattle.std.specs.List.{range_with_len};
+ghost use Rattle.regex.specs.Views.{builder_config, builder_source};
 ghost use Rattle.regex.specs.Bytes.{IsReadFromSource, group_count, regex_config, regex_pattern, regex_source};
 ghost use Rattle.regex.specs.Locations.{location, location_count};
 ghost use Rattle.regex.specs.Patterns.{find};
@@ -11,7 +12,7 @@ use regex::{CaptureLocations, Error, RegexBuilder};
 use std::alloc::Global;
 use waf_plain::{Bytes, NoMemory, Seq};
 
-/// Compiles a pattern with `.` matching line ends and everything else at its default.
+/// Compiles a pattern.
 pub(crate) fn compile(alloc: Global, source: &str) -> Result<Regex, BuildFault>
     ensures source { IfOk result (λ r. regex_source r ≡ source.now) }
     ensures config { IfOk result (λ r. regex_config r ≡ rule_config) }
@@ -19,12 +20,19 @@ pub(crate) fn compile(alloc: Global, source: &str) -> Result<Regex, BuildFault>
     ensures has_reading { IfOk result (λ _. IsSome (reading_of source.now)) }
     ensures bad { IfErr result (λ e. e ≡ BuildFault.BadPattern → reading_of source.now ≡ None) }
 {
-    let builder = RegexBuilder::new(source).dot_matches_new_line(true);
-    match builder.build_bytes(alloc) {
+    match builder(source).build_bytes(alloc) {
         Ok(regex) => Ok(regex),
         Err(Error::Syntax(_)) => Err(BuildFault::BadPattern),
         Err(_) => Err(BuildFault::NoMemory),
     }
+}
+
+/// `.` matches line ends, and everything else is at its default.
+fn builder(source: &str) -> RegexBuilder<'_>
+    ensures source { builder_source result ≡ source.now }
+    ensures config { record (builder_config result) { utf8 = false } ≡ rule_config }
+{
+    RegexBuilder::new(source).dot_matches_new_line(true)
 }
 
 /// A span for each group that took part.
