@@ -1,5 +1,12 @@
 pub mod Names
 pub mod Operator
+pub mod Print
+pub mod PrintActions
+pub mod PrintMacros
+pub mod PrintOperators
+pub mod PrintRules
+pub mod PrintTargets
+pub mod PrintTexts
 pub mod Settings
 pub mod Transform
 pub mod Variable
