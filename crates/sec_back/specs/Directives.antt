@@ -1,5 +1,5 @@
 -- The directives of a printed listing, a line each.
-use Rattle.std.specs.Prelude.{◌≡◌, ℕ, false, List, [], ◌∷◌, ◌++◌, codes, decimal, map, if◌then◌else◌}
+use Rattle.std.specs.Prelude.{◌≡◌, ℕ, Bool, true, false, not, ◌&&◌, List, [], ◌∷◌, ◌++◌, codes, decimal, if◌then◌else◌}
 use Rattle.std.specs.List.{AllByRecursion, flat_map, join_with_byte}
 use Rattle.sec_ast.specs.Print.{limit_action}
 use Rattle.sec_ast.specs.PrintActions.{link_pieces, rule_pieces, switch_text}
@@ -9,7 +9,7 @@ use Rattle.sec_ast.specs.declared.link.Link.{Link}
 use Rattle.sec_ast.specs.declared.listing.Item.{Item}
 use Rattle.sec_ast.specs.declared.listing.Item.TheVariants as items
 use Rattle.sec_ast.specs.declared.listing.Listing.{Listing}
-use Rattle.sec_text.specs.WrittenLines.{IsWhole}
+use Rattle.sec_text.specs.Lines.{is_line_feed}
 use Rattle.sec_text.specs.Written.{ends_with_backslash}
 use Rattle.sec_back.specs.Lines.{written}
 
@@ -45,7 +45,13 @@ item_directives (items.Marker label) = (codes "SecMarker", label ∷ []) ∷ []
 unfoldable pub directives_of : Listing → List Directive
 directives_of listing = settings_of listing ++ flat_map item_directives listing.items
 
--- each line stands as it is, and no word ends with a backslash
-pub record IsPrintable (listing : Listing) : Type 0 where
-  pub lines : AllByRecursion IsWhole (map directive_line (directives_of listing))
-  pub words : AllByRecursion (λ (directive : Directive). AllByRecursion (λ word. ends_with_backslash word ≡ false) directive.1) (directives_of listing)
+abbrev pub has_no_feed : List ℕ → Bool
+has_no_feed [] = true
+has_no_feed (b ∷ text) = not (is_line_feed b) && has_no_feed text
+
+-- a word that can be written: no line feed, and no backslash at its end
+abbrev pub IsSafe : List ℕ → Type 0
+IsSafe word = (has_no_feed word ≡ true) × (ends_with_backslash word ≡ false)
+
+abbrev pub IsPrintable : Listing → Type 0
+IsPrintable listing = AllByRecursion (λ (directive : Directive). AllByRecursion IsSafe directive.1) (directives_of listing)
