@@ -1,0 +1,4 @@
+pub mod Firsts
+pub mod Items
+pub mod Refusals
+pub mod Texts

@@ -1,0 +1,9 @@
+pub mod Applications
+pub mod Configuration
+pub mod Document
+pub mod Faults
+pub mod Keys
+pub mod Opening
+pub mod Reading
+pub mod Values
+pub mod Words

@@ -1,0 +1,6 @@
+pub mod Names
+pub mod Reading
+pub mod Refusal
+pub mod Request
+pub mod Response
+pub mod Values
