@@ -1,0 +1,5 @@
+pub mod Fuel
+pub mod Heads
+pub mod Inner
+pub mod Served
+pub mod Steps

@@ -1,0 +1,22 @@
+use Rattle.std.proofs.Common.{◌≡◌, ◌<◌, ◌≤◌, length, refl}
+use Rattle.spop_talk.specs.Ack.{ack, ack_body}
+use Rattle.conn_core.specs.Trace.{limit_of}
+use Rattle.conn_core.proofs.Inner.{acked, fallen, too_big}
+use Rattle.conn_core.proofs.Steps.{stands}
+use Rattle.conn_core.proofs.conn.Conn.acknowledge.Goals as goal
+
+pub returns-in-Ok-clause-next : goal.returns-in-Ok-clause-next
+returns-in-Ok-clause-next g c = λ s p.
+    let self = c.args.self.now in
+    let fits : length (ack_body self.stream self.frame self.actions) ≤ limit_of self.size self.agreed = rw (← c.limit-limit.ensures, ← c.self.view_is) c.in-Ok.ensures.fits in
+    let bytes : c.in-Ok.bytes ≡ ack self.stream self.frame self.actions = rw (← c.self.view_is) c.in-Ok.ensures.ok in
+    rw (c.set.ensures, bytes) (stands _ s c.requires.whole tt (acked self s c.requires.at c.requires.done fits p))
+
+pub returns-in-Err-TooBig-clause-next : goal.returns-in-Err-TooBig-clause-next
+returns-in-Err-TooBig-clause-next g c = λ s p.
+    let self = c.args.self.now in
+    let big : limit_of self.size self.agreed < length (ack_body self.stream self.frame self.actions) = rw (← c.limit-limit.ensures, ← c.self.view_is) (c.in-Err-TooBig.ensures.too_big c.in-Err-TooBig.field-0-0 (rw c.in-Err-TooBig.field-0-is refl)) in
+    c.refuse.ensures.next s (too_big self s c.requires.at c.requires.done big p)
+
+pub returns-in-Err-NoMemory-clause-next : goal.returns-in-Err-NoMemory-clause-next
+returns-in-Err-NoMemory-clause-next g c = λ s p. fallen c.args.self.now _ s (rw c.fall.ensures refl) (rw c.fall.ensures refl) (rw c.requires.at refl) p

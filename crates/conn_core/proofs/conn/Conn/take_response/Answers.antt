@@ -1,0 +1,18 @@
+use Rattle.std.proofs.Common.{◌≡◌, ◌∷◌, ap, refl}
+use Rattle.conn_core.specs.Stands.{Held}
+use Rattle.conn_core.proofs.Inner.{fallen, response_good}
+use Rattle.conn_core.proofs.conn.Conn.take_response.Goals as goal
+
+pub returns-in-Ok-clause-done : goal.returns-in-Ok-clause-done
+returns-in-Ok-clause-done g c = λ f s p.
+    c.tell.ensures.next s (response_good c.args.self.now s c.requires.at c.args.message.now c.in-Ok.told c.requires.other c.requires.named c.in-Ok.ensures.0 c.in-Ok.ensures.1 p)
+
+pub returns-in-Err-Bad-clause-done : goal.returns-in-Err-Bad-clause-done
+returns-in-Err-Bad-clause-done g c = λ f s p.
+    let new = c.add.ensures.err f in
+    fallen (record c.args.self.now { left = c.args.message.now ∷ c.args.self.now.left }) c.add.new.self s
+    (ap (λ (h : Held g.row.R.Denot g.row.P.Denot g.row.T.Denot). h.stage) new) (ap (λ (h : Held g.row.R.Denot g.row.P.Denot g.row.T.Denot). h.broken) new) (rw c.requires.at refl) p
+
+pub returns-in-Err-NoMemory-clause-done : goal.returns-in-Err-NoMemory-clause-done
+returns-in-Err-NoMemory-clause-done g c = λ f s p.
+    fallen (record c.args.self.now { left = c.args.message.now ∷ c.args.self.now.left }) c.fall.new.self s (rw c.fall.ensures refl) (rw c.fall.ensures refl) (rw c.requires.at refl) p

@@ -1,0 +1,4 @@
+pub mod Outcome
+pub mod Trace
+pub mod Stands
+pub mod Calls

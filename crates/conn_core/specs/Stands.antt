@@ -1,0 +1,246 @@
+-- When a connection stands for a state of the definition.
+use Rattle.std.specs.Prelude.{◌≡◌, ℕ, ◌+◌, ◌*◌, Bool, true, false, cond, not, ◌||◌, Option, Some, None, List, [], ◌∷◌, ◌++◌, length, drop, map}
+use Rattle.spop_frame.specs.Head.{NotYet, head_of}
+use Rattle.spop_frame.specs.declared.frame.Frame.{Frame}
+use Rattle.spop_hello.specs.Frames.{disconnect}
+use Rattle.spop_talk.specs.declared.ack.Action.{Action}
+use Rattle.spop_talk.specs.declared.message.Message.{Message}
+use Rattle.conn_core.specs.declared.need.Closing as closing
+use Rattle.conn_core.specs.declared.need.Closing.TheVariants as closings
+use Rattle.conn_core.specs.declared.stage.Hold.{Hold}
+use Rattle.conn_core.specs.declared.stage.Stage.{Stage}
+use Rattle.conn_core.specs.declared.stage.Stage.TheVariants as at
+use Rattle.conn_core.specs.Trace.{Need, Bytes, Look, Enter, Begin, Park, Leave, Resume, Finish, Retire, Write, Close, Reply, Found, UnknownApp, Entered, Refused, Interrupted, Goes, Resumed, NotParked, Ended, judged, begun, entered, looked, finished, resumed, messages, answer, limit_of, onward, any_frame, trace}
+
+-- a state of the definition: the input so far, whether it has ended, the replies so far, and the needs that are done
+pub record State (R P T : Type 0) : Type 0 where
+  pub size : ℕ
+  pub input : List ℕ
+  pub ended : Bool
+  pub replies : List (Reply R P T)
+  pub past : List (Need R P T)
+
+-- what a connection is seen as
+pub record Held (R P T : Type 0) : Type 0 where
+  pub size : ℕ
+  pub agreed : Option ℕ
+  pub unread : List ℕ
+  pub ended : Bool
+  pub stage : Stage R P T
+  pub stream : ℕ  -- of the NOTIFY that is being answered, as are the next three
+  pub frame : ℕ
+  pub left : List Message
+  pub actions : List Action
+  pub broken : Bool
+
+-- the ticket that is held
+abbrev pub ticket_of : {T : Type 0} → Option (Hold T) → Option T
+ticket_of None = None
+ticket_of (Some hold) = Some hold.ticket
+
+abbrev pub held_by : {T : Type 0} → Option (Hold T) → List T
+held_by None = []
+held_by (Some hold) = hold.ticket ∷ []
+
+module _ {R P T : Type 0} where
+  -- the opening state
+  abbrev pub opening : ℕ → State R P T
+  opening size = record { size = size; input = []; ended = false; replies = []; past = [] }
+
+  -- a need is done
+  abbrev pub served : Need R P T → State R P T → State R P T
+  served n s = record { size = s.size; input = s.input; ended = s.ended; replies = s.replies; past = s.past ++ n ∷ [] }
+
+  -- a reply is given
+  abbrev pub replied : Reply R P T → State R P T → State R P T
+  replied r s = record { size = s.size; input = s.input; ended = s.ended; replies = s.replies ++ r ∷ []; past = s.past }
+
+  -- what is left, by where it stands: `h` goes on at a frame, `k` after a message with its actions, `r` at the next
+  -- message, `f` at the next frame
+  abbrev pub left_at : Stage R P T → (Frame → List (Reply R P T) → List (Need R P T)) → (List Action → List (Reply R P T) → List (Need R P T)) → (List (Reply R P T) → List (Need R P T)) → (List (Reply R P T) → List (Need R P T)) → List (Reply R P T) → List (Need R P T)
+  left_at at.Bytes h k r f later = f later
+  left_at (at.Framed frame) h k r f later = h frame later
+  left_at at.Ready h k r f later = r later
+  left_at (at.Look id key request) h k r f later = Look key.app ∷ looked id key request k later
+  left_at (at.Enter id key request rules life) h k r f later = Enter key ∷ entered id request rules life k later
+  left_at (at.Entering id request rules life) h k r f later = entered id request rules life k later
+  left_at (at.Begin id request rules hold) h k r f later = Begin rules request ∷ begun id hold k later
+  left_at (at.Begun id hold) h k r f later = begun id hold k later
+  left_at (at.Park id hold half) h k r f later = Park hold.ticket hold.life half ∷ k (judged id None) later
+  left_at (at.Leave id ticket verdict) h k r f later = Leave ticket ∷ k (judged id (Some verdict)) later
+  left_at (at.Retire id half) h k r f later = Retire half ∷ k (judged id None) later
+  left_at (at.Retiring id) h k r f later = k (judged id None) later
+  left_at (at.Resume id key response) h k r f later = Resume key ∷ resumed id response k later
+  left_at (at.Resuming id response) h k r f later = resumed id response k later
+  left_at (at.Finish id half response) h k r f later = Finish half response ∷ finished id k later
+  left_at (at.Finishing id) h k r f later = finished id k later
+  left_at (at.Write bytes None) h k r f later = Write bytes ∷ f later
+  left_at (at.Write bytes (Some how)) h k r f later = Write bytes ∷ Close how ∷ []
+  left_at (at.LastLeave ticket) h k r f later = Leave ticket ∷ Write (disconnect 13) ∷ Close (closings.Ended 13) ∷ []
+  left_at at.LastWrite h k r f later = Write (disconnect 13) ∷ Close (closings.Ended 13) ∷ []
+  left_at (at.Close how) h k r f later = Close how ∷ []
+
+  -- with what is unread, whether the input has ended by then, and the replies that come yet
+  abbrev pub left_with : Held R P T → List ℕ → Bool → List (Reply R P T) → List (Need R P T)
+  left_with c unread ended =
+      let f = onward {R = R} {P = P} {T = T} c.size c.agreed unread ended in
+      let r = λ (actions : List Action). messages {R = R} {P = P} {T = T} c.left actions (answer (limit_of c.size c.agreed) c.stream c.frame f) in
+      left_at c.stage (any_frame {R = R} {P = P} {T = T} c.size c.agreed (λ agreed. onward c.size agreed unread ended))
+      (λ actions. r (c.actions ++ actions)) (r c.actions) f
+
+  -- with the input that comes yet
+  abbrev pub left_of : Held R P T → List ℕ → Bool → List (Reply R P T) → List (Need R P T)
+  left_of c more ended = left_with c (c.unread ++ more) ended
+
+  -- nothing comes behind the end of an input at which it closed
+  abbrev pub hears : Stage R P T → Bool → Bool
+  hears (at.Close how) ended = not ended
+  hears stage ended = true
+
+  -- however it goes on, the needs are those that are done, and then those that are left
+  pub record Going (c : Held R P T) (s : State R P T) : Type 0 where
+    pub is : (more : List ℕ) (ends : Bool) (later : List (Reply R P T)) →
+        trace s.size (s.input ++ cond (hears c.stage c.ended) more []) (cond (hears c.stage c.ended) ends false || s.ended) (s.replies ++ later)
+        ≡ s.past ++ left_of c more (ends || c.ended) later
+
+  -- the tickets that were given, those that were parked or left, and the one that is held
+  abbrev pub tickets_in : List (Reply R P T) → List T
+  tickets_in [] = []
+  tickets_in (Entered ticket ∷ replies) = ticket ∷ tickets_in replies
+  tickets_in (r ∷ replies) = tickets_in replies
+
+  abbrev pub spent_in : List (Need R P T) → List T
+  spent_in [] = []
+  spent_in (Park ticket life half ∷ past) = ticket ∷ spent_in past
+  spent_in (Leave ticket ∷ past) = ticket ∷ spent_in past
+  spent_in (n ∷ past) = spent_in past
+
+  abbrev pub held_at : Stage R P T → List T
+  held_at (at.Begin id request rules hold) = held_by hold
+  held_at (at.Begun id hold) = held_by hold
+  held_at (at.Park id hold half) = hold.ticket ∷ []
+  held_at (at.Leave id ticket verdict) = ticket ∷ []
+  held_at (at.LastLeave ticket) = ticket ∷ []
+  held_at stage = []
+
+  -- it goes on as the definition does, and holds the ticket that is open
+  pub record Plain (c : Held R P T) (s : State R P T) : Type 0 where
+    pub going : Going c s
+    pub tickets : tickets_in s.replies ≡ spent_in s.past ++ held_at c.stage
+    pub ended : c.ended ≡ s.ended
+
+  -- A broken trace: a front of the trace, then each ticket that is open is left, the frame of status 13 is written,
+  -- and that is the end
+  pub record IsBroken (whole : List (Need R P T)) (replies : List (Reply R P T)) (needs : List (Need R P T)) : Type 0 where
+    pub front : List (Need R P T)
+    pub rest : List (Need R P T)
+    pub whole_is : whole ≡ front ++ rest
+    pub is : needs ≡ front ++ (map Leave (drop (length (spent_in front)) (tickets_in replies)) ++ Write (disconnect 13) ∷ Close (closings.Ended 13) ∷ [])
+
+  -- what is left of one
+  abbrev pub ending : Stage R P T → List (Need R P T)
+  ending (at.LastLeave ticket) = Leave ticket ∷ Write (disconnect 13) ∷ Close (closings.Ended 13) ∷ []
+  ending at.LastWrite = Write (disconnect 13) ∷ Close (closings.Ended 13) ∷ []
+  ending (at.Close how) = Close how ∷ []
+  ending stage = []
+
+  abbrev pub IsEnding : Stage R P T → Type 0
+  IsEnding (at.LastLeave ticket) = Unit {0}
+  IsEnding at.LastWrite = Unit {0}
+  IsEnding (at.Close how) = Unit {0}
+  IsEnding stage = ⊥
+
+  pub record Broken (c : Held R P T) (s : State R P T) : Type 0 where
+    pub trace_is : IsBroken (trace s.size s.input s.ended s.replies) s.replies (s.past ++ ending c.stage)
+    pub ending_is : IsEnding c.stage
+
+  -- whole, or broken by want of memory
+  abbrev pub StandsAs : Bool → Held R P T → State R P T → Type 0
+  StandsAs false c s = Plain c s
+  StandsAs true c s = Broken c s
+
+  -- it waits for bytes only where no head is whole and more may come
+  abbrev pub Waits : Stage R P T → Held R P T → Type 0
+  Waits at.Bytes c = (head_of (limit_of c.size c.agreed) c.unread ≡ NotYet) × (c.ended ≡ false)
+  Waits (at.LastLeave ticket) c = c.broken ≡ true
+  Waits at.LastWrite c = c.broken ≡ true
+  Waits at.Ready c = ⊥
+  Waits (at.Framed frame) c = ⊥
+  Waits (at.Entering id request rules life) c = ⊥
+  Waits (at.Begun id hold) c = ⊥
+  Waits (at.Retiring id) c = ⊥
+  Waits (at.Resuming id response) c = ⊥
+  Waits (at.Finishing id) c = ⊥
+  Waits stage c = Unit {0}
+
+  -- between two calls
+  pub record Stands (c : Held R P T) (s : State R P T) : Type 0 where
+    pub waits : Waits c.stage c
+    pub stands : StandsAs c.broken c s
+
+  -- the values of a need were taken, and its answer was not given yet
+  abbrev pub IsTaken : Stage R P T → Type 0
+  IsTaken (at.Entering id request rules life) = Unit {0}
+  IsTaken (at.Begun id hold) = Unit {0}
+  IsTaken (at.Retiring id) = Unit {0}
+  IsTaken (at.Resuming id response) = Unit {0}
+  IsTaken (at.Finishing id) = Unit {0}
+  IsTaken stage = ⊥
+
+  pub record Taken (c : Held R P T) (s : State R P T) : Type 0 where
+    pub taken : IsTaken c.stage
+    pub stands : StandsAs c.broken c s
+
+  -- the trace ends in Bytes, and the input has not ended
+  pub record WaitsForBytes (s : State R P T) : Type 0 where
+    pub on : s.ended ≡ false
+    pub trace_is : trace s.size s.input s.ended s.replies ≡ s.past ++ Bytes ∷ []
+
+  -- How it ends: as the definition does, and where the input has not ended so whatever comes; or as a broken trace of it
+  pub record Closes (c : Held R P T) (s : State R P T) (how : closing.Closing) : Type 0 where
+    pub plain : c.broken ≡ false → trace s.size s.input s.ended s.replies ≡ s.past ++ Close how ∷ []
+    pub whatever : c.broken ≡ false → s.ended ≡ false → (more : List ℕ) (ends : Bool) → trace s.size (s.input ++ more) ends s.replies ≡ s.past ++ Close how ∷ []
+    pub broke : c.broken ≡ true → IsBroken (trace s.size s.input s.ended s.replies) s.replies (s.past ++ Close how ∷ [])
+
+  -- at Close, and after want of memory, no more input is heard
+  abbrev pub is_open : Stage R P T → Bool
+  is_open (at.Close how) = false
+  is_open stage = true
+
+  abbrev pub listens : Held R P T → Bool
+  listens c = cond c.broken false (is_open c.stage)
+
+  -- the input grows, or has ended
+  abbrev pub fed : Held R P T → List ℕ → State R P T → State R P T
+  fed c piece s = cond (listens c) (record { size = s.size; input = s.input ++ piece; ended = s.ended; replies = s.replies; past = s.past }) s
+
+  abbrev pub shut : Held R P T → State R P T → State R P T
+  shut c s = cond (listens c) (record { size = s.size; input = s.input; ended = true; replies = s.replies; past = s.past }) s
+
+  -- A bound on the calls until it needs bytes or closes: sixteen for each unread byte and each message that is left, and
+  -- a number for the stage
+  abbrev pub rank : Stage R P T → ℕ
+  rank (at.Look id key request) = 12
+  rank (at.Enter id key request rules life) = 11
+  rank (at.Entering id request rules life) = 10
+  rank (at.Begin id request rules hold) = 9
+  rank (at.Begun id hold) = 8
+  rank (at.Resume id key response) = 10
+  rank (at.Resuming id response) = 9
+  rank (at.Finish id half response) = 8
+  rank (at.Finishing id) = 7
+  rank (at.Retire id half) = 7
+  rank (at.Retiring id) = 6
+  rank (at.Park id hold half) = 6
+  rank (at.Leave id ticket verdict) = 6
+  rank at.Ready = 5
+  rank (at.Framed frame) = 16 * (1 + length frame.payload)
+  rank (at.Write bytes None) = 4
+  rank at.Bytes = 3
+  rank (at.LastLeave ticket) = 2
+  rank (at.Write bytes (Some how)) = 1
+  rank at.LastWrite = 1
+  rank (at.Close how) = 0
+
+  abbrev pub calls_left : Held R P T → ℕ
+  calls_left c = 16 * (length c.unread + length c.left) + rank c.stage
