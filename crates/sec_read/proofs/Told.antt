@@ -1,5 +1,5 @@
 -- One step after another, where files are told.
-use Rattle.std.proofs.Common.{◌≡◌, Option, Some, None, Result, Ok, Err, sym, ap, subst}
+use Rattle.std.proofs.Common.{◌≡◌, Option, Some, None, Result, Ok, sym, ap, subst}
 use Rattle.std.specs.Prelude.{IfSome}
 use Rattle.sec_parts.specs.Results.{◌>>=◌}
 use Rattle.sec_read.specs.declared.faults.Found.{Found}
