@@ -1,0 +1,4 @@
+pub mod AddressWords
+pub mod Depths
+pub mod FirstFault
+pub mod Told

@@ -1,0 +1,14 @@
+pub mod Results
+pub mod Faults
+pub mod Items
+pub mod Defaults
+pub mod Settings
+pub mod Removals
+pub mod Names
+pub mod Directives
+pub mod FileWords
+pub mod Operators
+pub mod Links
+pub mod Steps
+pub mod Listing
+pub mod Reached

@@ -1,0 +1,69 @@
+-- The operator of a rule, with the words that it takes from a file, and with addresses that are some.
+use Rattle.std.specs.Prelude.{ℕ, Bool, true, false, ◌&&◌, ◌||◌, not, nat_le, bytes_eq, decimal, find, is_some, List, ◌∷◌, length, take, drop, Option, Some, None, Result, Ok, if◌then◌else◌}
+use Rattle.std.specs.List.{list_any, range_with_len}
+use Rattle.std.specs.declared.net.ip_addr.IpAddr.{IpAddr}
+use Rattle.ip_set.specs.Blocks.{width}
+use Rattle.ip_set.specs.Membership.{ip_of}
+use Rattle.sec_ast.specs.declared.OpKind.{OpKind}
+use Rattle.sec_ast.specs.declared.OpKind.TheVariants as kinds
+use Rattle.sec_parts.specs.declared.faults.Bad.{Bad}
+use Rattle.sec_parts.specs.declared.operators.Operator.{Operator}
+use Rattle.sec_parts.specs.Operators.{operator_of}
+use Rattle.sec_parts.specs.Results.{◌>>=◌, bad}
+use Rattle.sec_read.specs.declared.faults.Cause.TheVariants as causes
+use Rattle.sec_read.specs.declared.faults.Found.{Found}
+use Rattle.sec_read.specs.Faults.{fault, placed}
+use Rattle.sec_read.specs.Names.{beside, has_wildcard}
+use Rattle.sec_read.specs.FileWords.{Named, admitted, words_in}
+
+-- ---- words that name addresses
+
+abbrev pub has_bits : Option IpAddr → ℕ → Bool
+has_bits None bits = false
+has_bits (Some address) bits = nat_le bits (width address)
+
+-- the first bytes, so many, are an address, and behind them stand / and this number, which is at most its width
+unfoldable pub is_cut_at : List ℕ → ℕ → ℕ → Bool
+is_cut_at word count bits = bytes_eq (drop count word) (47 ∷ decimal bits) && has_bits (ip_of (take count word)) bits
+
+-- an address, or a block: an address, / and a number of at most 32, or 128 for version 6
+unfoldable pub is_address_word : List ℕ → Bool
+is_address_word word =
+    is_some (ip_of word) || list_any (λ count. list_any (is_cut_at word count) (range_with_len 0 129)) (range_with_len 0 (length word))
+
+-- ---- what an operator is to have
+
+abbrev pub is_of_addresses : OpKind → Bool
+is_of_addresses kinds.IpMatch = true
+is_of_addresses other = false
+
+-- the first word that names no address and no block
+abbrev pub first_bad : List (List ℕ) → Option (List ℕ)
+first_bad words = find (λ word. not (is_address_word word)) words
+
+abbrev pub unless_bad : Option (List ℕ) → Operator → Result Operator Bad
+unless_bad None operator = Ok operator
+unless_bad (Some word) operator = bad word
+
+abbrev pub checked : Operator → Result Operator Bad
+checked operator = unless_bad (if is_of_addresses operator.op.kind then first_bad operator.op.words else None) operator
+
+abbrev pub with_words : Operator → List (List ℕ) → Operator
+with_words operator words = record operator { op = record operator.op { words = words } }
+
+-- where its words stand in a file it takes them from there; a number counts the bytes of texts
+abbrev pub filled : Named → List ℕ → ℕ → Option (List ℕ) → Operator → ℕ → Result (Operator × ℕ) Found
+filled files file line None operator total = Ok (operator, total)
+filled files file line (Some word) operator total =
+    if has_wildcard word then fault file line causes.RefusedByName word
+    else (admitted file line word (files (beside file word)) total >>= λ text. Ok (with_words operator (words_in text.content), text.total))
+
+-- once its addresses are some
+abbrev pub checked_at : List ℕ → ℕ → Operator × ℕ → Result (Operator × ℕ) Found
+checked_at file line whole = placed file line (checked whole.0) >>= λ operator. Ok (operator, whole.1)
+
+unfoldable pub operator_at : Named → List ℕ → ℕ → List ℕ → ℕ → Result (Operator × ℕ) Found
+operator_at files file line word total = do
+  stated ← placed file line (operator_of word)
+  whole ← filled files file line stated.file stated total
+  checked_at file line whole

@@ -1,0 +1,99 @@
+ghost use Rattle.std.specs.Prelude.{◌≡◌, IfOk, unwrap_or};
+ghost use Rattle.sec_read.specs.Defaults.{default_at, default_of, first_default, first_defaults, with_default};
+
+use sec_ast::Disrupt;
+use sec_parts::Acts;
+use waf_plain::NoMemory;
+
+// What a rule of one phase does that does not say it.
+#[derive(Drop)]
+pub struct PhaseDefault {
+    pub disrupt: Disrupt,
+    pub status: u32,
+    pub log: bool,
+}
+
+// The defaults of each phase, 1 to 5.
+#[derive(Drop)]
+pub struct Defaults {
+    pub request_headers: PhaseDefault,
+    pub request_body: PhaseDefault,
+    pub response_headers: PhaseDefault,
+    pub response_body: PhaseDefault,
+    pub logging: PhaseDefault,
+}
+
+impl PhaseDefault {
+    fn first() -> PhaseDefault
+        ensures { result ≡ first_default }
+    {
+        PhaseDefault {
+            disrupt: Disrupt::Pass,
+            status: 0,
+            log: true,
+        }
+    }
+
+    // What a list of actions names, and the rest as at the start.
+    pub fn of(acts: Acts) -> PhaseDefault
+        ensures { result ≡ default_of acts }
+    {
+        PhaseDefault {
+            disrupt: acts.disrupt.unwrap_or(Disrupt::Pass),
+            status: acts.status.unwrap_or(0),
+            log: acts.log.unwrap_or(true),
+        }
+    }
+
+    // The disruptive action of a rule that names this one, or none.
+    pub fn disrupt_or(&self, given: Option<Disrupt>) -> Result<Disrupt, NoMemory>
+        ensures { IfOk result (λ disrupt. disrupt ≡ unwrap_or given self.now.disrupt) }
+    {
+        match given {
+            Some(disrupt) => Ok(disrupt),
+            None => Ok(self.disrupt.clone()?),
+        }
+    }
+}
+
+impl Defaults {
+    // As they are before any directive.
+    pub fn first() -> Defaults
+        ensures { result ≡ first_defaults }
+    {
+        Defaults {
+            request_headers: PhaseDefault::first(),
+            request_body: PhaseDefault::first(),
+            response_headers: PhaseDefault::first(),
+            response_body: PhaseDefault::first(),
+            logging: PhaseDefault::first(),
+        }
+    }
+
+    #[tactic(auto, unfolding(crate::specs::Defaults::default_at))]
+    pub fn of(&self, phase: u8) -> &PhaseDefault
+        ensures { result.now ≡ default_at phase self.now }
+    {
+        match phase {
+            1 => &self.request_headers,
+            2 => &self.request_body,
+            3 => &self.response_headers,
+            4 => &self.response_body,
+            _ => &self.logging,
+        }
+    }
+
+    // Sets those of one phase.
+    #[tactic(auto, unfolding(crate::specs::Defaults::with_default))]
+    pub fn set(&mut self, phase: u8, default: PhaseDefault)
+        ensures { self.new ≡ with_default phase default self.old }
+    {
+        match phase {
+            1 => self.request_headers = default,
+            2 => self.request_body = default,
+            3 => self.response_headers = default,
+            4 => self.response_body = default,
+            _ => self.logging = default,
+        }
+    }
+}

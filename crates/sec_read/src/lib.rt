@@ -1,0 +1,25 @@
+//! Rule files as a listing: directives, the files that they name, defaults, settings and removals,
+//! or the first fault in reading order.
+#![tactic(auto)]
+
+mod addresses;
+mod at;
+mod defaults;
+mod directive;
+mod faults;
+mod files;
+mod items;
+mod links;
+mod names;
+mod operators;
+mod reading;
+mod removals;
+mod settings;
+mod steps;
+#[cfg(test)]
+mod tests;
+mod texts;
+
+pub use faults::{Fault, Kind};
+pub use files::{fault_is_the_first, read_all, read_rules};
+pub use names::name_beside;

@@ -1,0 +1,348 @@
+ghost use Rattle.std.specs.Prelude.{◌≡◌, ◌≤◌, IfErr, IfOk, IfSome, OnOk, decimal, true};
+ghost use Rattle.std.specs.Option.{option_copied};
+ghost use Rattle.sec_parts.specs.Acts.{no_acts};
+ghost use Rattle.sec_parts.specs.Results.{Gives};
+ghost use Rattle.waf_io.specs.Counts.{Rose};
+ghost use Rattle.sec_read.specs.Links.{acting, action_line, acts_of, always, first_link, further_link, link_of, linked, rule_line, rule_of, rule_with, stand_of, tested, with_rule};
+ghost use Rattle.sec_read.specs.Results.{Answers, IsFault, Tells, is_unread};
+
+use crate::at::At;
+use crate::defaults::PhaseDefault;
+use crate::faults::{Cause, Halt};
+use crate::operators::read_operator_at;
+use crate::reading::{Reading, Unfinished};
+use sec_ast::{Link, Op, OpKind, Place, Rule, Target};
+use sec_parts::{Acts, Operator, Refusal, Stand, read_actions, read_targets};
+use std::alloc::Global;
+use waf_io::Files;
+use waf_plain::{Bytes, NoMemory, Seq};
+
+const LINK_LIMIT: u64 = 32;
+
+// What a link tests.
+#[derive(Drop)]
+pub struct Condition {
+    pub targets: Seq<Target>,
+    pub always: bool,
+    pub negated: bool,
+    pub op: Op,
+}
+
+// That of a `SecAction`.
+fn always_true(alloc: Global) -> Condition
+    ensures { result ≡ always }
+{
+    Condition {
+        targets: Seq::new(alloc),
+        always: true,
+        negated: false,
+        op: Op {
+            kind: OpKind::UnconditionalMatch,
+            text: Seq::new(alloc),
+            words: Seq::new(alloc),
+        },
+    }
+}
+
+// Whether an action list is that of a first link.
+fn stand_now(reading: &Reading) -> Stand
+    ensures { result ≡ stand_of reading.now.unfinished }
+{
+    match &reading.unfinished {
+        None => Stand::First,
+        Some(_) => Stand::Later,
+    }
+}
+
+// A rule by its first link.
+fn make_rule(
+    alloc: Global,
+    at: At<'_>,
+    id: u32,
+    condition: Condition,
+    acts: Acts,
+    default: &PhaseDefault,
+) -> Result<Rule, NoMemory>
+    ensures { IfOk result (λ rule. rule ≡ rule_of at.entry.file.now at.entry.line id condition acts default.now) }
+{
+    let disrupt = default.disrupt_or(acts.disrupt)?;
+    let file = Bytes::copy(alloc, at.file)?;
+    let mut links = Seq::new(alloc);
+    links.push(Link {
+        targets: condition.targets,
+        always: condition.always,
+        negated: condition.negated,
+        op: condition.op,
+        transforms: acts.transforms,
+        capture: acts.capture,
+        multi: acts.multi,
+        setvars: acts.setvars,
+        ctls: acts.ctls,
+    })?;
+    Ok(Rule {
+        id,
+        phase: acts.phase.unwrap_or(2),
+        links,
+        disrupt,
+        status: acts.status.unwrap_or(default.status),
+        log: acts.log.unwrap_or(default.log),
+        msg: acts.msg,
+        logdata: acts.logdata,
+        tags: acts.tags,
+        skip: acts.skip,
+        skip_after: acts.skip_after,
+        place: Place {
+            file,
+            line: at.line,
+        },
+    })
+}
+
+fn make_link(condition: Condition, acts: Acts) -> Link
+    ensures { result ≡ link_of condition acts }
+{
+    Link {
+        targets: condition.targets,
+        always: condition.always,
+        negated: condition.negated,
+        op: condition.op,
+        transforms: acts.transforms,
+        capture: acts.capture,
+        multi: acts.multi,
+        setvars: acts.setvars,
+        ctls: acts.ctls,
+    }
+}
+
+// A rule that is whole, or that waits for its next link.
+fn add_rule(
+    alloc: Global,
+    chain: bool,
+    line: u32,
+    rule: Rule,
+    reading: &mut Reading,
+) -> Result<(), NoMemory>
+    ensures { OnOk result (reading.new ≡ with_rule chain line rule reading.old) }
+{
+    if chain {
+        reading.unfinished = Some(Unfinished { rule, line });
+        return Ok(());
+    }
+    reading.unfinished = None;
+    reading.items.push_rule(alloc, rule)
+}
+
+// A fault whose word is an identifier.
+fn at_id(alloc: Global, at: At<'_>, cause: Cause, id: u32) -> Halt
+    ensures { IsFault result at.entry.file.now at.entry.line cause (decimal id) }
+{
+    let mut buffer = itoa::Buffer::new();
+    at.fault(alloc, cause, buffer.format(id).as_bytes())
+}
+
+fn add_first_link(
+    alloc: Global,
+    at: At<'_>,
+    condition: Condition,
+    acts: Acts,
+    reading: &mut Reading,
+) -> Result<(), Halt>
+    ensures { Answers (λ _. reading.new) result (first_link at.entry.file.now at.entry.line condition acts.id acts reading.old) }
+{
+    let Some(id) = acts.id else {
+        return Err(at.fault(alloc, Cause::NoId, b""));
+    };
+    if reading.items.has_id(id) {
+        return Err(at_id(alloc, at, Cause::DoubleId, id));
+    }
+    if reading.items.is_full() {
+        return Err(at_id(alloc, at, Cause::TooLong, id));
+    }
+    let chain = acts.chain;
+    let default = reading.defaults.of(acts.phase.unwrap_or(2));
+    let rule = make_rule(alloc, at, id, condition, acts, default)?;
+    add_rule(alloc, chain, at.line, rule, reading)?;
+    Ok(())
+}
+
+fn add_further_link(
+    alloc: Global,
+    at: At<'_>,
+    condition: Condition,
+    acts: Acts,
+    rule: Rule,
+    reading: &mut Reading,
+) -> Result<(), Halt>
+    ensures { Answers (λ _. reading.new) result (further_link at.entry.file.now at.entry.line condition acts rule reading.old) }
+{
+    if rule.links.len() >= LINK_LIMIT {
+        return Err(at.fault(alloc, Cause::TooLong, b""));
+    }
+    let chain = acts.chain;
+    let mut rule = rule;
+    rule.links.push(make_link(condition, acts))?;
+    add_rule(alloc, chain, at.line, rule, reading)?;
+    Ok(())
+}
+
+fn add_link(
+    alloc: Global,
+    at: At<'_>,
+    condition: Condition,
+    acts: Acts,
+    reading: &mut Reading,
+) -> Result<(), Halt>
+    ensures { Answers (λ _. reading.new) result (linked at.entry.file.now at.entry.line condition acts reading.old.unfinished reading.old) }
+{
+    match reading.unfinished.take() {
+        None => add_first_link(alloc, at, condition, acts, reading),
+        Some(Unfinished { rule, line: _ }) => {
+            add_further_link(alloc, at, condition, acts, rule, reading)
+        }
+    }
+}
+
+fn nothing_said(alloc: Global) -> Acts
+    ensures { result ≡ no_acts }
+{
+    Acts {
+        id: None,
+        phase: None,
+        msg: Seq::new(alloc),
+        logdata: Seq::new(alloc),
+        tags: Seq::new(alloc),
+        log: None,
+        disrupt: None,
+        status: None,
+        skip: 0,
+        skip_after: None,
+        chain: false,
+        transforms: Seq::new(alloc),
+        capture: false,
+        multi: false,
+        setvars: Seq::new(alloc),
+        ctls: Seq::new(alloc),
+    }
+}
+
+// What the action list of a link says, which may be missing.
+fn read_acts(alloc: Global, stand: Stand, actions: Option<&[u8]>) -> Result<Acts, Refusal>
+    ensures { Gives (λ a. a) result (acts_of stand (option_copied actions.entry)) }
+{
+    match actions {
+        None => Ok(nothing_said(alloc)),
+        Some(text) => read_actions(alloc, stand, text),
+    }
+}
+
+// The actions of a link whose targets and operator were read.
+fn read_acting(
+    alloc: Global,
+    at: At<'_>,
+    targets: Seq<Target>,
+    stated: (Operator, u64),
+    actions: Option<&[u8]>,
+    reading: &mut Reading,
+) -> Result<(), Halt>
+    ensures { Answers (λ _. reading.new) result (acting at.entry.file.now at.entry.line targets (option_copied actions.entry) reading.old stated) }
+{
+    let (operator, total) = stated;
+    let acts = at.placed(alloc, read_acts(alloc, stand_now(reading), actions))?;
+    reading.total = total;
+    add_link(alloc, at, condition_of(targets, operator), acts, reading)
+}
+
+#[tactic(auto, unfolding(crate::specs::Links::rule_with))]
+fn read_rule<F: Files>(
+    alloc: Global,
+    files: &mut F,
+    at: At<'_>,
+    targets: &[u8],
+    operator: &[u8],
+    actions: Option<&[u8]>,
+    reading: &mut Reading,
+) -> Result<(), Halt>
+    ensures same { F.content files.new ≡ F.content files.old }
+    ensures later { F.faults files.old ≤ F.faults files.new }
+    ensures cause { IfErr result (λ halt. is_unread halt ≡ true → Rose (F.faults files.old) (F.faults files.new)) }
+    ensures told { IfSome (F.content files.old) (λ told. Tells (λ _. reading.new) result (rule_with told at.entry.file.now at.entry.line targets.now operator.now (option_copied actions.entry) reading.old)) }
+{
+    let targets = at.placed(alloc, read_targets(alloc, targets))?;
+    let stated = read_operator_at(alloc, files, at, operator, reading.total)?;
+    read_acting(alloc, at, targets, stated, actions, reading)
+}
+
+fn condition_of(targets: Seq<Target>, operator: Operator) -> Condition
+    ensures { result ≡ tested targets operator }
+{
+    Condition {
+        targets,
+        always: false,
+        negated: operator.negated,
+        op: operator.op,
+    }
+}
+
+// The line of a `SecRule`.
+pub fn read_rule_line<F: Files>(
+    alloc: Global,
+    files: &mut F,
+    at: At<'_>,
+    name: &[u8],
+    given: &[Bytes],
+    reading: &mut Reading,
+) -> Result<(), Halt>
+    ensures same { F.content files.new ≡ F.content files.old }
+    ensures later { F.faults files.old ≤ F.faults files.new }
+    ensures cause { IfErr result (λ halt. is_unread halt ≡ true → Rose (F.faults files.old) (F.faults files.new)) }
+    ensures told { IfSome (F.content files.old) (λ told. Tells (λ _. reading.new) result (rule_line told at.entry.file.now at.entry.line name.now given.now reading.old)) }
+{
+    match given {
+        [targets, operator] => {
+            let operator = operator.as_slice();
+            read_rule(
+                alloc,
+                files,
+                at,
+                targets.as_slice(),
+                operator,
+                None,
+                reading,
+            )
+        }
+        [targets, operator, actions] => {
+            let operator = operator.as_slice();
+            let actions = Some(actions.as_slice());
+            read_rule(
+                alloc,
+                files,
+                at,
+                targets.as_slice(),
+                operator,
+                actions,
+                reading,
+            )
+        }
+        _ => Err(at.fault(alloc, Cause::BadWord, name)),
+    }
+}
+
+// The line of a `SecAction`.
+pub fn read_action_line(
+    alloc: Global,
+    at: At<'_>,
+    name: &[u8],
+    given: &[Bytes],
+    reading: &mut Reading,
+) -> Result<(), Halt>
+    ensures { Answers (λ _. reading.new) result (action_line at.entry.file.now at.entry.line name.now given.now reading.old) }
+{
+    match given {
+        [actions] => {
+            let read = read_actions(alloc, stand_now(reading), actions.as_slice());
+            let acts = at.placed(alloc, read)?;
+            add_link(alloc, at, always_true(alloc), acts, reading)
+        }
+        _ => Err(at.fault(alloc, Cause::BadWord, name)),
+    }
+}
