@@ -1,159 +1,256 @@
 -- Serving a connection piece by piece.
-use Rattle.std.proofs.Common.{◌≡◌, inl, inr, ℕ, zero, suc, ◌+◌, ◌-◌, ◌<◌, ◌≤◌, Bool, true, false, nat_le, List, [], ◌∷◌, ◌++◌, length, take, drop, Option, Some, None, refl, sym, ◌∙◌, ap, subst, arith, append_assoc, length-drop}
-use Rattle.std.proofs.lemmas.Bool.{le-leb, lt-leb}
-use Rattle.std.proofs.lemmas.List.{append-nil}
+use Rattle.std.proofs.Common.{◌≡◌, ◌⊎◌, inl, inr, ℕ, zero, suc, ◌+◌, ◌<◌, ◌≤◌, Bool, true, false, List, [], ◌∷◌, ◌++◌, length, take, drop, map, Option, Some, None, refl, sym, ◌∙◌, ap, subst, arith, append_assoc, length-drop}
+use Rattle.std.proofs.lemmas.List.{append-nil, length-append, take-append-drop}
+use Rattle.std.proofs.Math.Seq.{take-append_seam}
 use Rattle.std.specs.Option.{IfSome}
 use Rattle.waf_io.specs.Sink.{Adds}
 use Rattle.waf_io.specs.Source.{HandsOver}
-use Rattle.waf_io.proofs.Adds.{adds_both, adds_none}
-use Rattle.spop_frame.specs.Head.{Head}
+use Rattle.waf_io.proofs.Adds.{adds_none}
 use Rattle.spop_hello.specs.Frames.{disconnect}
-use Rattle.agent_main.specs.declared.closing.Closing.TheVariants as closings
+use Rattle.conn_core.specs.declared.need.Closing as closing
+use Rattle.conn_core.specs.declared.need.Closing.TheVariants as closings
+use Rattle.conn_core.specs.Stands.{Closes, IsBroken, Stands, WaitsForBytes, fed, listens, opening, shut, spent_in, tickets_in}
+use Rattle.conn_core.specs.Trace.{Bytes, Leave, Write, Close, trace}
+use Rattle.agent_main.specs.declared.judge.Ticket.{Ticket}
 use Rattle.agent_main.specs.declared.serve.End as end
 use Rattle.agent_main.specs.declared.serve.End.TheVariants as ends
-use Rattle.agent_main.specs.Connection.{Served, writes, closes, at_end, at_head, onward, connection}
+use Rattle.agent_main.specs.Connection.{Broken, Closed, Ends, Spent, Unread, Unwritten, writes}
+use Rattle.agent_main.specs.Judge.{Need, Reply, replies_to}
 use Rattle.agent_main.specs.Rule.{DeniedMethod}
-use Rattle.agent_main.specs.Run.{AddsFront, IsBroken, Ends, fed, Hears, GivesUp}
-use Rattle.agent_main.specs.Steps.{Talking, says, IsWaiting}
-use Rattle.agent_main.proofs.Onward.{onward_is}
+use Rattle.agent_main.specs.Steps.{EndsHere, Fails, Heard, Hears, Point, Runs, Same, Talk}
+use Rattle.agent_main.proofs.Standing.{fed_is, shut_is}
 
--- a front of these bytes is one of more
-pub front_more : (old new : Option (List ℕ)) (bytes more : List ℕ) → AddsFront old bytes new → AddsFront old (bytes ++ more) new
-front_more old new bytes more f = (f.0, f.1 ++ more, sym (append_assoc f.0 f.1 more) ∙ ap (λ (l : List ℕ). l ++ more) f.2, f.3)
+-- ---- a broken trace closes with status 13
 
--- a front of what comes behind bytes that were added
-pub front_behind : (old mid new : Option (List ℕ)) (said bytes : List ℕ) → Adds old said mid → AddsFront mid bytes new → AddsFront old (said ++ bytes) new
-front_behind old mid new said bytes a f = (said ++ f.0, f.1, append_assoc said f.0 f.1 ∙ ap (λ (l : List ℕ). said ++ l) f.2, adds_both old mid new said f.0 a f.3)
+abbrev last_of : Need → List Need → Need
+last_of n [] = n
+last_of n (x ∷ xs) = last_of x xs
 
-broken_behind : (said bytes : List ℕ) (s : Served) → IsBroken bytes s → IsBroken (said ++ bytes) (writes said s)
-broken_behind said bytes s b =
-    (said ++ b.0, b.1, append_assoc said b.0 b.1 ∙ ap (λ (l : List ℕ). said ++ l) b.2, ap (λ (l : List ℕ). said ++ l) b.3 ∙ sym (append_assoc said b.0 (disconnect 13)))
+last_is : (n : Need) (xs : List Need) (x : Need) → last_of n (xs ++ x ∷ []) ≡ x
+last_is n [] x = refl
+last_is n (y ∷ ys) x = last_is y ys x
 
--- an end behind bytes that were added
-pub ends_behind : (how : end.End) (old mid new : Option (List ℕ)) (said : List ℕ) (s : Served) → Adds old said mid → Ends how s mid new → Ends how (writes said s) old new
-ends_behind (ends.Closed how) old mid new said s a e = (e.0, adds_both old mid new said s.bytes a e.1)
-ends_behind ends.ReadFault old mid new said s a e = front_behind old mid new said s.bytes a e
-ends_behind ends.WriteFault old mid new said s a (inl e) = inl (front_behind old mid new said s.bytes a e)
-ends_behind ends.WriteFault old mid new said s a (inr e) = inr (said ++ e.0, broken_behind said e.0 s e.1, front_behind old mid new said e.0 a e.2)
-ends_behind ends.NoMemory old mid new said s a e = (said ++ e.0, broken_behind said e.0 s e.1, adds_both old mid new said e.0 a e.2)
+abbrev closing_in : closing.Closing → Need → closing.Closing
+closing_in how (Close closing) = closing
+closing_in how other = how
 
--- giving up behind a front of what is served
-pub gave_up : (how : end.End) (old new : Option (List ℕ)) (said last rest : List ℕ) (s : Served) → said ++ rest ≡ s.bytes → last ≡ disconnect 13
-    → GivesUp how said last old new → Ends how s old new
-gave_up (ends.Closed how) old new said last rest s is d g = absurd g
-gave_up ends.ReadFault old new said last rest s is d g = absurd g
-gave_up ends.WriteFault old new said last rest s is d g = inr (said ++ last, (said, rest, is, ap (λ (l : List ℕ). said ++ l) d), g)
-gave_up ends.NoMemory old new said last rest s is d g = (said ++ last, (said, rest, is, ap (λ (l : List ℕ). said ++ l) d), g)
+-- two lists that are equal end alike
+ends_alike : (xs front leaves : List Need) (a write b : Need) → xs ++ a ∷ [] ≡ front ++ (leaves ++ write ∷ b ∷ []) → a ≡ b
+ends_alike xs front leaves a write b is =
+    let parts : front ++ (leaves ++ write ∷ []) ++ b ∷ [] ≡ front ++ (leaves ++ write ∷ b ∷ []) =
+    append_assoc front (leaves ++ write ∷ []) (b ∷ []) ∙ ap (λ (l : List Need). front ++ l) (append_assoc leaves (write ∷ []) (b ∷ [])) in
+    sym (last_is a xs a) ∙ ap (last_of a) (is ∙ sym parts) ∙ last_is a (front ++ (leaves ++ write ∷ [])) b
 
--- where no whole frame is held and nothing comes, that is the end
-pub waits_at_end : (rule : DeniedMethod) (t : Talking) (spent : Bool) → IsWaiting t → says rule t spent [] ≡ closes (at_end spent t.held)
-waits_at_end rule t spent waits =
-    ap (onward rule t.own t.agreed spent) (append-nil t.held)
-    ∙ onward_is rule t.own t.agreed spent t.held
-    ∙ ap (λ (h : Head). at_head rule t.own t.agreed (λ rest now. onward rule t.own now spent rest) spent t.held h) waits
+pub broken_is_13 : (whole : List Need) (replies : List Reply) (past : List Need) (how : closing.Closing) → IsBroken whole replies (past ++ Close how ∷ []) → how ≡ closings.Ended 13
+broken_is_13 whole replies past how b =
+    ap (closing_in how)
+    (ends_alike past b.front (map Leave (drop (length (spent_in b.front)) (tickets_in replies))) (Close how) (Write (disconnect 13)) (Close (closings.Ended 13)) b.is)
 
--- as many bytes as are taken of one connection
-abbrev pub most : ℕ
-most = 4611686018427387904
+-- ---- between two pieces
 
--- what was said so far, and what is left of the input
-pub record Serving (rule : DeniedMethod) (input : List ℕ) (left : Option (List ℕ)) (taken : ℕ) (talk : Talking) (before now : Option (List ℕ)) : Type 0 where
+-- what was taken of an input, where it is told
+pub record Took (input : List ℕ) (left : Option (List ℕ)) (taken : ℕ) (got : List ℕ) : Type 0 where
   pub rest : List ℕ
   pub left_is : left ≡ Some rest
-  pub size : taken + length rest ≡ length input
-  pub said : List ℕ
-  pub added : Adds before said now
-  pub goes : connection rule 16380 input ≡ writes said (says rule talk (nat_le most (length input)) (take (most - taken) rest))
+  pub input_is : input ≡ got ++ rest
+  pub count : length got ≡ taken
 
-pub opens : (rule : DeniedMethod) (input : List ℕ) (left held : Option (List ℕ)) → left ≡ Some input
-    → Serving rule input left 0 (record { own = 16380; agreed = None; held = [] }) held held
-unfolding connection
-opens rule input left held is = record { rest = input; left_is = is; size = omega arith; said = []; added = adds_none held; goes = refl }
+pub record Serving (rule : DeniedMethod) (first left : Option (List ℕ)) (taken : ℕ) (talk : Talk) (old now : Option (List ℕ)) : Type 0 where
+  pub state : Point
+  pub runs : Runs rule talk state old now
+  pub hears : listens talk ≡ true
+  pub waits : WaitsForBytes state
+  pub size : state.size ≡ 16380
+  pub told : (input : List ℕ) → first ≡ Some input → Took input left taken state.input
 
-take_both : (n k : ℕ) (xs : List ℕ) → n ≤ length xs → take (n + k) xs ≡ take n xs ++ take k (drop n xs)
-take_both zero k xs within = (let none : zero + k ≡ k = omega arith in ap (λ (j : ℕ). take j xs) none)
-take_both (suc n) k [] within = absurd (omega (arith, within))
-take_both (suc n) k (x ∷ xs) within =
-    let first : suc n + k ≡ suc (n + k) = omega arith in
-    ap (λ (j : ℕ). take j (x ∷ xs)) first ∙ ap (λ (l : List ℕ). x ∷ l) (take_both n k xs (omega (arith, within)))
+abbrev start : Point
+start = opening 16380
 
-take_more : (n m : ℕ) (xs : List ℕ) → n ≤ m → n ≤ length xs → take m xs ≡ take n xs ++ take (m - n) (drop n xs)
-take_more n m xs fits within = (let sum : m ≡ n + (m - n) = omega (arith, fits) in ap (λ (j : ℕ). take j xs) sum ∙ take_both n (m - n) xs within)
+start_waits : WaitsForBytes start
+unfolding trace
+start_waits = record { on = refl; trace_is = refl }
 
-take_none : (n : ℕ) → take {A = ℕ} n [] ≡ []
-take_none zero = refl
-take_none (suc n) = refl
+pub opens : (rule : DeniedMethod) (told held : Option (List ℕ)) (talk : Talk) → Stands talk (opening 16380) → listens talk ≡ true → Serving rule told told 0 talk held held
+opens rule told held talk stands hears = record {
+  state = start;
+  runs = record { stands = stands; replies_are = refl; added = adds_none held };
+  hears = hears;
+  waits = start_waits;
+  size = refl;
+  told = λ input is. record { rest = input; left_is = is; input_is = refl; count = refl };
+}
 
--- a piece comes
-module _ (rule : DeniedMethod) (input buffer piece : List ℕ) (left after : Option (List ℕ)) (taken n : ℕ) (talk new : Talking) (before mid now : Option (List ℕ))
-    (s : Serving rule input left taken talk before mid) (hands : HandsOver n buffer left after) (is : piece ≡ take n buffer) (fits : taken + n ≤ most) where
-  handed : HandsOver n buffer (Some s.rest) after
-  handed = subst (λ (l : Option (List ℕ)). HandsOver n buffer l after) s.left_is hands
+-- ---- where a read failed, or as many bytes were taken as ever are
 
-  piece_is : piece ≡ take n s.rest
-  piece_is = is ∙ handed.1
+trace_as : (rule : DeniedMethod) (s : Point) (size : ℕ) (input : List ℕ) (ended : Bool) (needs : List Need)
+    → s.size ≡ size → s.input ≡ input → s.ended ≡ ended → s.replies ≡ replies_to rule s.past
+    → trace s.size s.input s.ended s.replies ≡ needs → trace size input ended (replies_to rule s.past) ≡ needs
+trace_as rule s size input ended needs e1 e2 e3 e4 is = sym (λ i. trace (e1 i) (e2 i) (e3 i) (e4 i)) ∙ is
 
-  -- what the connection says behind that piece
-  behind_piece : connection rule 16380 input ≡ writes s.said (says rule (fed talk piece) (nat_le most (length input)) (take (most - (taken + n)) (drop n s.rest)))
-  behind_piece =
-      let spent = nat_le most (length input) in
-      let rest = take (most - (taken + n)) (drop n s.rest) in
-      let parts : take (most - taken) s.rest ≡ piece ++ rest =
-      take_more n (most - taken) s.rest (omega (arith, fits)) handed.0
-      ∙ (let same : most - taken - n ≡ most - (taken + n) = omega arith in (λ i. sym piece_is i ++ take (same i) (drop n s.rest))) in
-      s.goes ∙ ap (λ (l : List ℕ). writes s.said (onward rule talk.own talk.agreed spent l)) (ap (λ (l : List ℕ). talk.held ++ l) parts ∙ sym (append_assoc talk.held piece rest))
+pub read_fails : (rule : DeniedMethod) (first left : Option (List ℕ)) (taken : ℕ) (talk : Talk) (old now : Option (List ℕ)) (input : List ℕ)
+    → Serving rule first left taken talk old now → first ≡ Some input → Unread rule 16380 input old now
+read_fails rule first left taken talk old now input s is =
+    let t = s.told input is in
+    record {
+      taken = s.state.input;
+      rest = t.rest;
+      input_is = t.input_is;
+      past = s.state.past;
+      trace_is = trace_as rule s.state 16380 s.state.input false _ s.size refl s.waits.on s.runs.replies_are s.waits.trace_is;
+      added = s.runs.added;
+    }
 
-  pub heard : Hears rule None (fed talk piece) new mid now → Serving rule input after (taken + n) new before now
+length_front : (xs ys : List ℕ) → length xs ≤ length (xs ++ ys)
+length_front [] ys = omega arith
+length_front (x ∷ xs) ys = (let more : length xs ≤ length (xs ++ ys) = length_front xs ys in omega (arith, more))
+
+pub spends : (rule : DeniedMethod) (first left : Option (List ℕ)) (talk : Talk) (old now : Option (List ℕ)) (input : List ℕ)
+    → Serving rule first left 4611686018427387904 talk old now → first ≡ Some input → Spent rule 16380 input old now
+spends rule first left talk old now input s is =
+    let t = s.told input is in
+    let front : take 4611686018427387904 input ≡ s.state.input =
+    (λ i. take (sym t.count i) (t.input_is i)) ∙ take-append_seam s.state.input t.rest in
+    let many : length s.state.input ≤ length input = subst (λ (l : List ℕ). length s.state.input ≤ length l) (sym t.input_is) (length_front s.state.input t.rest) in
+    record {
+      past = s.state.past;
+      many = omega (arith, many, t.count);
+      trace_is = trace_as rule s.state 16380 (take 4611686018427387904 input) false _ s.size (sym front) s.waits.on s.runs.replies_are s.waits.trace_is;
+      added = s.runs.added;
+    }
+
+-- ---- a piece comes
+
+-- what is told of the input with that piece
+took_more : (input : List ℕ) (left after : Option (List ℕ)) (buffer piece got : List ℕ) (taken n : ℕ)
+    → Took input left taken got → HandsOver n buffer left after → piece ≡ take n buffer → length piece ≡ n → Took input after (taken + n) (got ++ piece)
+took_more input left after buffer piece got taken n t hands is count =
+    let handed = subst (λ (l : Option (List ℕ)). HandsOver n buffer l after) t.left_is hands in
+    let front : piece ≡ take n t.rest = is ∙ handed.1 in
+    record {
+      rest = drop n t.rest;
+      left_is = handed.2;
+      input_is = t.input_is ∙ ap (λ (l : List ℕ). got ++ l) (sym (take-append-drop n t.rest) ∙ ap (λ (l : List ℕ). l ++ drop n t.rest) (sym front)) ∙ sym (append_assoc got piece (drop n t.rest));
+      count = length-append got piece ∙ (λ i. t.count i + count i);
+    }
+
+-- the connection closed
+module _ (rule : DeniedMethod) (d : Talk) (t : Point) (input rest : List ℕ) (how : closing.Closing) (old now : Option (List ℕ))
+    (size : t.size ≡ 16380) (input_is : input ≡ t.input ++ rest) (runs : Runs rule d t old now) (closes : Closes d t how) where
+  whole : d.broken ≡ false → trace t.size (t.input ++ rest) true t.replies ≡ t.past ++ Close how ∷ [] → Ends (ends.Closed how) rule 16380 input old now
+  whole e is = inl (record {
+    past = t.past;
+    trace_is = sym (λ i. trace (size i) (sym input_is i) true (runs.replies_are i)) ∙ is;
+    added = runs.added;
+  })
+
+  broken : d.broken ≡ true → Ends (ends.Closed how) rule 16380 input old now
+  broken e =
+      let b = closes.broke e in
+      let is_13 : how ≡ closings.Ended 13 = broken_is_13 _ t.replies t.past how b in
+      inr (is_13, record {
+        taken = t.input;
+        rest = rest;
+        input_is = input_is;
+        ended = t.ended;
+        past = t.past;
+        broken =
+            subst (λ (c : closing.Closing). IsBroken (trace 16380 t.input t.ended (replies_to rule t.past)) (replies_to rule t.past) (t.past ++ Close c ∷ [])) is_13
+            (subst (λ (l : List Reply). IsBroken (trace 16380 t.input t.ended l) l (t.past ++ Close how ∷ [])) runs.replies_are
+            (subst (λ (n : ℕ). IsBroken (trace n t.input t.ended t.replies) t.replies (t.past ++ Close how ∷ [])) size b));
+        added = runs.added;
+      })
+
+  on_piece : (b : Bool) → d.broken ≡ b → t.ended ≡ false → Ends (ends.Closed how) rule 16380 input old now
+  on_piece false e goes = whole e (closes.whatever e goes rest true)
+  on_piece true e goes = broken e
+
+  pub closes_on_piece : t.ended ≡ false → Ends (ends.Closed how) rule 16380 input old now
+  closes_on_piece goes = on_piece d.broken refl goes
+
+  at_end : (b : Bool) → d.broken ≡ b → t.ended ≡ true → rest ≡ [] → Ends (ends.Closed how) rule 16380 input old now
+  at_end false e over none = whole e ((λ i. trace t.size ((ap (λ (l : List ℕ). t.input ++ l) none ∙ append-nil t.input) i) (sym over i) t.replies) ∙ closes.plain e)
+  at_end true e over none = broken e
+
+  pub closes_at_end : t.ended ≡ true → rest ≡ [] → Ends (ends.Closed how) rule 16380 input old now
+  closes_at_end over none = at_end d.broken refl over none
+
+-- a write failed
+fails_in : (rule : DeniedMethod) (s : Point) (input rest : List ℕ) (old now : Option (List ℕ)) → s.size ≡ 16380 → input ≡ s.input ++ rest → Fails rule s old now
+    → Unwritten rule 16380 input old now
+fails_in rule s input rest old now size input_is f = record {
+  taken = s.input;
+  rest = rest;
+  input_is = input_is;
+  ended = s.ended;
+  past = f.past;
+  front = f.front;
+  back = f.back;
+  left = f.left;
+  needs = subst (λ (n : ℕ).
+  (trace n s.input s.ended (replies_to rule f.past) ≡ f.past ++ Write (f.front ++ f.back) ∷ f.left)
+  ⊎ IsBroken (trace n s.input s.ended (replies_to rule f.past)) (replies_to rule f.past) (f.past ++ Write (f.front ++ f.back) ∷ f.left)) size f.needs;
+  added = f.added;
+}
+
+-- behind a piece
+module _ (rule : DeniedMethod) (first left after : Option (List ℕ)) (taken n : ℕ) (talk new : Talk) (old mid now : Option (List ℕ)) (buffer piece : List ℕ)
+    (s : Serving rule first left taken talk old mid) (hands : HandsOver n buffer left after) (is : piece ≡ take n buffer) (count : length piece ≡ n) where
+  abbrev at : Point
+  at = record { size = s.state.size; input = s.state.input ++ piece; ended = s.state.ended; replies = s.state.replies; past = s.state.past }
+
+  at_is : fed talk piece s.state ≡ at
+  at_is = fed_is talk s.state piece s.hears
+
+  took : (input : List ℕ) → first ≡ Some input → Took input after (taken + n) (s.state.input ++ piece)
+  took input told = took_more input left after buffer piece s.state.input taken n (s.told input told) hands is count
+
+  pub heard : Hears rule piece None talk new mid now → Serving rule first after (taken + n) new old now
   heard h =
-      let spent = nat_le most (length input) in
-      let rest = take (most - (taken + n)) (drop n s.rest) in
+      let x = subst (λ (p : Point). Heard rule None p new old now) at_is (h old s.state s.runs) in
       record {
-        rest = drop n s.rest;
-        left_is = handed.2;
-        size = omega (arith, s.size, length-drop n s.rest, handed.0);
-        said = s.said ++ h.0;
-        added = adds_both before mid now s.said h.0 s.added h.4;
-        goes = behind_piece ∙ ap (writes s.said) (h.1 spent rest) ∙ ap (λ (l : List ℕ). record { bytes = l; closing = (says rule new spent rest).closing }) (sym (append_assoc s.said h.0 (says rule new spent rest).bytes));
+        state = x.0;
+        runs = x.1;
+        hears = x.4;
+        waits = x.3;
+        size = x.2.size ∙ s.size;
+        told = λ input told. subst (λ (l : List ℕ). Took input after (taken + n) l) (sym x.2.input) (took input told);
       }
 
-  pub heard_end : (how : end.End) → Hears rule (Some how) (fed talk piece) new mid now → Ends how (connection rule 16380 input) before now
-  heard_end how h =
-      subst (λ (x : Served). Ends how x before now) (sym behind_piece)
-      (ends_behind how before mid now s.said _ s.added (h (nat_le most (length input)) (take (most - (taken + n)) (drop n s.rest))))
+  ended_by : (how : end.End) (input : List ℕ) → first ≡ Some input → Heard rule (Some how) at new old now → Ends how rule 16380 input old now
+  ended_by (ends.Closed how) input told x =
+      let t = took input told in
+      closes_on_piece rule new x.0 input t.rest how old now (x.2.size ∙ s.size) (t.input_is ∙ ap (λ (l : List ℕ). l ++ t.rest) (sym x.2.input)) x.1 x.3 (x.2.ended ∙ s.waits.on)
+  ended_by ends.WriteFault input told f = (let t = took input told in fails_in rule at input t.rest old now s.size t.input_is f)
+  ended_by ends.Spent input told f = absurd f
+  ended_by ends.ReadFault input told f = absurd f
+  ended_by ends.NoMemory input told f = absurd f
 
-module _ (rule : DeniedMethod) (input : List ℕ) (left : Option (List ℕ)) (taken : ℕ) (talk : Talking) (before now : Option (List ℕ))
-    (s : Serving rule input left taken talk before now) where
-  -- a read failed: what was said is a front of all
-  pub read_fails : AddsFront before (connection rule 16380 input).bytes now
-  read_fails = (
-    s.said,
-    (says rule talk (nat_le most (length input)) (take (most - taken) s.rest)).bytes,
-    sym (ap (λ (x : Served). x.bytes) s.goes),
-    s.added,
-  )
+  pub heard_end : (how : end.End) (input : List ℕ) → first ≡ Some input → Hears rule piece (Some how) talk new mid now → Ends how rule 16380 input old now
+  heard_end how input told h = ended_by how input told (subst (λ (p : Point). Heard rule (Some how) p new old now) at_is (h old s.state s.runs))
 
-  -- it closes here, where nothing is left that it would take
-  closes_here : (spent : Bool) → nat_le most (length input) ≡ spent → take (most - taken) s.rest ≡ [] → IsWaiting talk
-      → Ends (ends.Closed (at_end spent talk.held)) (connection rule 16380 input) before now
-  closes_here spent is none waits =
-      let goes : connection rule 16380 input ≡ writes s.said (closes (at_end spent talk.held)) =
-      s.goes ∙ (λ i. writes s.said (says rule talk (is i) (none i))) ∙ ap (writes s.said) (waits_at_end rule talk spent waits) in (
-        ap (λ (x : Served). x.closing) goes,
-        subst (λ (l : List ℕ). Adds before l now) (sym (append-nil s.said) ∙ sym (ap (λ (x : Served). x.bytes) goes)) s.added,
-      )
+-- at the end of the input
+module _ (rule : DeniedMethod) (first left : Option (List ℕ)) (taken : ℕ) (talk d : Talk) (old mid now : Option (List ℕ))
+    (s : Serving rule first left taken talk old mid) where
+  abbrev end_at : Point
+  end_at = record { size = s.state.size; input = s.state.input; ended = true; replies = s.state.replies; past = s.state.past }
 
-  pub input_ends : taken < most → left ≡ Some [] → IsWaiting talk → Ends (ends.Closed (at_end false talk.held)) (connection rule 16380 input) before now
-  input_ends few is waits =
-      let both : Some s.rest ≡ Some [] = sym s.left_is ∙ is in
-      let none : s.rest ≡ [] = cc both in
-      let short : length input < most = omega (arith, few, s.size, ap length none) in
-      closes_here false (lt-leb most (length input) short) (ap (take (most - taken)) none ∙ take_none (most - taken)) waits
+  end_is : shut talk s.state ≡ end_at
+  end_is = shut_is talk s.state s.hears
 
-  pub spent : most ≤ taken → IsWaiting talk → Ends (ends.Closed closings.Spent) (connection rule 16380 input) before now
-  spent many waits =
-      let long : most ≤ length input = omega (arith, many, s.size) in
-      let nothing : most - taken ≡ 0 = omega (arith, many) in
-      closes_here true (le-leb most (length input) long) (ap (λ (n : ℕ). take n s.rest) nothing) waits
+  over_by : (how : end.End) (input rest : List ℕ) → input ≡ s.state.input ++ rest → rest ≡ [] → Heard rule (Some how) end_at d old now → Ends how rule 16380 input old now
+  over_by (ends.Closed how) input rest is none x =
+      closes_at_end rule d x.0 input rest how old now (x.2.size ∙ s.size) (is ∙ ap (λ (l : List ℕ). l ++ rest) (sym x.2.input)) x.1 x.3 x.2.ended none
+  over_by ends.WriteFault input rest is none f = fails_in rule end_at input rest old now s.size is f
+  over_by ends.Spent input rest is none f = absurd f
+  over_by ends.ReadFault input rest is none f = absurd f
+  over_by ends.NoMemory input rest is none f = absurd f
+
+  pub input_ends : (how : end.End) (input : List ℕ) → first ≡ Some input → left ≡ Some [] → EndsHere rule how talk d mid now → Ends how rule 16380 input old now
+  input_ends how input told over e =
+      let t = s.told input told in
+      let both : Some t.rest ≡ Some [] = sym t.left_is ∙ over in
+      let none : t.rest ≡ [] = cc both in
+      over_by how input t.rest t.input_is none (subst (λ (p : Point). Heard rule (Some how) p d old now) end_is (e old s.state s.runs))
 
 -- where something is told, a fact of it
 pub if_told : (o : Option (List ℕ)) (P : List ℕ → Type 0) → ((x : List ℕ) → o ≡ Some x → P x) → IfSome o P

@@ -1,7 +1,10 @@
+pub mod Check
 pub mod Connection
-pub mod Judged
-pub mod Judging
-pub mod Reading
+pub mod FaultLines
+pub mod Halted
+pub mod Judge
+pub mod Listings
+pub mod Report
 pub mod Rule
 pub mod RuleSeen
 pub mod Run

@@ -1,57 +1,89 @@
--- What a step of a connection wrote, and what comes behind it.
-use Rattle.std.specs.Prelude.{◌≡◌, ℕ, ◌<◌, Bool, List, ◌++◌, length, Option, Some, None, Result, Ok, Err}
-use Rattle.waf_plain.specs.declared.memory.NoMemory as memory
-use Rattle.spop_frame.specs.Head.{NotYet, head_of}
-use Rattle.agent_main.specs.declared.closing.Closing as closing
-use Rattle.agent_main.specs.declared.frames.Step as step
-use Rattle.agent_main.specs.declared.frames.Step.TheVariants as steps
-use Rattle.agent_main.specs.declared.talk.Turn as turn
-use Rattle.agent_main.specs.declared.talk.Turn.TheVariants as turns
-use Rattle.agent_main.specs.Connection.{Served, writes, closes, limit_of, onward}
+-- What a step of serving does to the state that a connection stands for.
+use Rattle.std.specs.Prelude.{◌≡◌, ◌⊎◌, ℕ, Bool, true, List, ◌∷◌, ◌++◌, Option, Some, None}
+use Rattle.waf_io.specs.Sink.{Adds}
+use Rattle.conn_core.specs.declared.need.Closing as closing
+use Rattle.conn_core.specs.Stands.{Held, State, Stands, Closes, WaitsForBytes, fed, listens, shut}
+use Rattle.conn_core.specs.Trace.{Write}
+use Rattle.agent_main.specs.declared.judge.Passes.{Passes}
+use Rattle.agent_main.specs.declared.judge.TheRule.{TheRule}
+use Rattle.agent_main.specs.declared.judge.Ticket.{Ticket}
+use Rattle.agent_main.specs.declared.serve.End as end
+use Rattle.agent_main.specs.declared.serve.End.TheVariants as ends
+use Rattle.agent_main.specs.declared.serve.Turn as turn
+use Rattle.agent_main.specs.declared.serve.Turn.TheVariants as turns
+use Rattle.agent_main.specs.Connection.{HasNeeds, writes}
+use Rattle.agent_main.specs.Judge.{Need, replies_to}
 use Rattle.agent_main.specs.Rule.{DeniedMethod}
 
--- a frame was answered: after the bytes that were added comes the next frame, or the end
-abbrev pub Steps : Result step.Step memory.NoMemory → ((Option ℕ → Served) → Served) → List ℕ → List ℕ → Type 0
-Steps (Ok (steps.Goes size)) answer old new =
-    (more : List ℕ) × (new ≡ old ++ more) × ((next : Option ℕ → Served) → answer next ≡ writes more (next (Some size)))
-Steps (Ok (steps.Closes how)) answer old new =
-    (more : List ℕ) × (new ≡ old ++ more) × ((next : Option ℕ → Served) → answer next ≡ writes more (closes how))
-Steps (Err e) answer old new = new ≡ old
+abbrev pub Talk : Type 0
+Talk = Held TheRule Passes Ticket
 
--- what a connection is seen as between two pieces: its own size, the agreed one, and the bytes that are not answered yet
-pub record Talking : Type 0 where
-  pub own : ℕ
-  pub agreed : Option ℕ
-  pub held : List ℕ
+abbrev pub Point : Type 0
+Point = State TheRule Passes Ticket
 
--- what it says, whatever comes
-abbrev pub says : DeniedMethod → Talking → Bool → List ℕ → Served
-says rule t spent more = onward rule t.own t.agreed spent (t.held ++ more)
+-- it stands for a state whose replies are the judge's, and its Writes were added
+pub record Runs (rule : DeniedMethod) (c : Talk) (s : Point) (old now : Option (List ℕ)) : Type 0 where
+  pub stands : Stands c s
+  pub replies_are : s.replies ≡ replies_to rule s.past
+  pub added : Adds old (writes s.past) now
 
--- it goes on as the new one after these bytes, whatever comes
-abbrev pub GoesOn : DeniedMethod → Talking → List ℕ → Talking → Type 0
-GoesOn rule old bytes new = (spent : Bool) (more : List ℕ) → says rule old spent more ≡ writes bytes (says rule new spent more)
+-- the same input of the same agent
+pub record Same (s t : Point) : Type 0 where
+  pub size : t.size ≡ s.size
+  pub input : t.input ≡ s.input
+  pub ended : t.ended ≡ s.ended
 
--- it ends after these bytes, whatever comes
-abbrev pub EndsWith : DeniedMethod → Talking → List ℕ → closing.Closing → Type 0
-EndsWith rule old bytes how = (spent : Bool) (more : List ℕ) → says rule old spent more ≡ writes bytes (closes how)
+-- it goes on at a later state
+abbrev pub Acts : DeniedMethod → Talk → Talk → Option (List ℕ) → Option (List ℕ) → Type 0
+Acts rule c d before now =
+    (old : Option (List ℕ)) (s : Point) → Runs rule c s old before → (t : Point) × Runs rule d t old now × Same s t
 
--- no whole frame is held, and nothing is wrong with what is
-abbrev pub IsWaiting : Talking → Type 0
-IsWaiting t = head_of (limit_of t.own t.agreed) t.held ≡ NotYet
+-- bytes are to be written next, of which a front was added
+pub record Fails (rule : DeniedMethod) (s : Point) (old now : Option (List ℕ)) : Type 0 where
+  pub past : List Need
+  pub front : List ℕ
+  pub back : List ℕ
+  pub left : List Need
+  pub needs : HasNeeds rule s.size s.input s.ended past (past ++ Write (front ++ back) ∷ left)
+  pub added : Adds old (writes past ++ front) now
 
--- the first frame that is held was answered
-abbrev pub Turns : DeniedMethod → Result turn.Turn memory.NoMemory → Talking → Talking → List ℕ → List ℕ → Type 0
-Turns rule (Ok turns.Waits) old new said now = (new ≡ old) × (now ≡ said) × IsWaiting old
-Turns rule (Ok turns.Goes) old new said now =
-    (more : List ℕ) × (now ≡ said ++ more) × GoesOn rule old more new × (length new.held < length old.held) × (new.own ≡ old.own)
-Turns rule (Ok (turns.Closes how)) old new said now = (more : List ℕ) × (now ≡ said ++ more) × EndsWith rule old more how
-Turns rule (Err e) old new said now = now ≡ said
+abbrev pub FailsToWrite : DeniedMethod → Talk → Option (List ℕ) → Option (List ℕ) → Type 0
+FailsToWrite rule c before now = (old : Option (List ℕ)) (s : Point) → Runs rule c s old before → Fails rule s old now
 
--- all whole frames that are held were answered, or memory ran out before
-abbrev pub Answers : DeniedMethod → Result (Option closing.Closing) memory.NoMemory → Talking → Talking → List ℕ → List ℕ → Type 0
-Answers rule (Ok None) old new said now =
-    (more : List ℕ) × (now ≡ said ++ more) × GoesOn rule old more new × IsWaiting new × (new.own ≡ old.own)
-Answers rule (Ok (Some how)) old new said now = (more : List ℕ) × (now ≡ said ++ more) × EndsWith rule old more how
-Answers rule (Err e) old new said now =
-    (more : List ℕ) × (now ≡ said ++ more) × (later : Bool → List ℕ → Served) × ((spent : Bool) (rest : List ℕ) → says rule old spent rest ≡ writes more (later spent rest))
+-- it stands at its close
+abbrev pub ClosesAs : DeniedMethod → closing.Closing → Talk → Talk → Option (List ℕ) → Option (List ℕ) → Type 0
+ClosesAs rule how c d before now =
+    (old : Option (List ℕ)) (s : Point) → Runs rule c s old before → (t : Point) × Runs rule d t old now × Same s t × Closes d t how
+
+-- it waits for bytes
+abbrev pub WaitsThen : DeniedMethod → Talk → Talk → Option (List ℕ) → Option (List ℕ) → Type 0
+WaitsThen rule c d before now =
+    (old : Option (List ℕ)) (s : Point) → Runs rule c s old before
+    → (t : Point) × Runs rule d t old now × Same s t × WaitsForBytes t × (listens d ≡ true)
+
+-- all needs were done up to one for bytes, or the close
+abbrev pub Turns : DeniedMethod → turn.Turn → Talk → Talk → Option (List ℕ) → Option (List ℕ) → Type 0
+Turns rule turns.Waits c d before now = WaitsThen rule c d before now
+Turns rule (turns.Closes how) c d before now = ClosesAs rule how c d before now
+Turns rule turns.Fails c d before now = FailsToWrite rule c before now
+
+-- one need was done, or that was the last
+abbrev pub Stepped : DeniedMethod → Option turn.Turn → Talk → Talk → Option (List ℕ) → Option (List ℕ) → Type 0
+Stepped rule None c d before now = Acts rule c d before now
+Stepped rule (Some turn) c d before now = Turns rule turn c d before now
+
+-- after a piece, or at the end of the input: it waits, or that was its end
+abbrev pub Heard : DeniedMethod → Option end.End → Point → Talk → Option (List ℕ) → Option (List ℕ) → Type 0
+Heard rule None s d old now = (t : Point) × Runs rule d t old now × Same s t × WaitsForBytes t × (listens d ≡ true)
+Heard rule (Some (ends.Closed how)) s d old now = (t : Point) × Runs rule d t old now × Same s t × Closes d t how
+Heard rule (Some ends.WriteFault) s d old now = Fails rule s old now
+Heard rule (Some ends.Spent) s d old now = ⊥
+Heard rule (Some ends.ReadFault) s d old now = ⊥
+Heard rule (Some ends.NoMemory) s d old now = ⊥
+
+abbrev pub Hears : DeniedMethod → List ℕ → Option end.End → Talk → Talk → Option (List ℕ) → Option (List ℕ) → Type 0
+Hears rule piece result c d before now =
+    (old : Option (List ℕ)) (s : Point) → Runs rule c s old before → Heard rule result (fed c piece s) d old now
+
+abbrev pub EndsHere : DeniedMethod → end.End → Talk → Talk → Option (List ℕ) → Option (List ℕ) → Type 0
+EndsHere rule result c d before now = (old : Option (List ℕ)) (s : Point) → Runs rule c s old before → Heard rule (Some result) (shut c s) d old now

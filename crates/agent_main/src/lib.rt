@@ -1,16 +1,19 @@
 //! The commands of the agent over whatever gives it words, files, input and output.
 #![tactic(auto)]
 
-mod closing;
-mod frames;
-mod judging;
+mod check;
+mod fault_lines;
+mod halt;
+mod judge;
+mod listings;
+mod offline;
 mod once;
 mod reading;
+mod report;
 mod rule;
 mod serve;
-mod talk;
 #[cfg(test)]
 mod tests;
 mod words;
 
-pub use once::offline_main;
+pub use offline::offline_main;

@@ -1,9 +1,12 @@
-ghost use Rattle.std.specs.Prelude.{◌≡◌, ◌≤◌, ◌<◌, ◌^◌, drop, IsTrue, length, take_while};
+ghost use Rattle.std.specs.Prelude.{◌≡◌};
+ghost use Rattle.std.specs.List.{list_all};
 ghost use Rattle.std.specs.Option.{option_map};
-ghost use Rattle.agent_main.specs.Rule.{fitting, is_digit, is_fit, is_upper, number_of, rule_in};
+ghost use Rattle.agent_main.specs.Rule.{alone, asks_the_method, compared, denied, denies, has_plain_settings, is_bare, is_method, is_upper, method_in, method_of, rule_of};
 ghost use Rattle.agent_main.specs.RuleSeen.{rule_seen};
 
-use crate::reading::behind;
+use sec_ast::{
+    Disrupt, Engine, Item, Link, Listing, Op, OpKind, Part, Rule, Select, Target, Var,
+};
 
 // The rule that denies requests of a method.
 #[derive(Clone, Copy)]
@@ -12,107 +15,146 @@ pub struct MethodRule<'a> {
     pub id: u32,
 }
 
-// The rule of a file that has the one form.
-#[tactic(auto, unfolding(crate::specs::Rule::rule_in))]
-pub fn rule_in(text: &[u8]) -> Option<MethodRule<'_>>
-    ensures { option_map rule_seen result ≡ rule_in text.now }
+// The rule of a listing that has just one, of the one form.
+#[tactic(auto, unfolding(crate::specs::Rule::rule_of))]
+pub fn rule_of(listing: &Listing) -> Option<MethodRule<'_>>
+    ensures { option_map rule_seen result ≡ rule_of listing.now }
 {
-    let Some(rest) = behind(b"SecRule REQUEST_METHOD \"@streq ", text) else {
-        return None;
-    };
-    let (method, rest) = letters(rest);
-    let Some(rest) = behind(b"\" \"id:", rest) else {
-        return None;
-    };
-    let (digits, rest) = digits(rest);
-    let Some(end) = behind(b",phase:1,deny\"", rest) else {
-        return None;
-    };
-    fitting(method, digits, end)
-}
-
-// The rule of these parts, where each is in its form.
-#[tactic(auto, unfolding(crate::specs::Rule::fitting))]
-fn fitting<'a>(method: &'a [u8], digits: &[u8], end: &[u8]) -> Option<MethodRule<'a>>
-    ensures { option_map rule_seen result ≡ fitting method.now digits.now end.now }
-{
-    if !is_fit(method, digits, end) {
-        return None;
-    }
-    let id = number_of(digits);
-    if id <= 999999999 {
-        Some(MethodRule {
-            method,
-            id: id as u32,
-        })
+    if has_plain_settings(listing) {
+        alone(listing.items.as_slice())
     } else {
         None
     }
 }
 
-// The letters A to Z at the front, and what follows them.
-fn letters(text: &[u8]) -> (&[u8], &[u8])
-    ensures front { result.0.now ≡ take_while is_upper text.now }
-    ensures rest { result.1.now ≡ drop (length (take_while is_upper text.now)) text.now }
+fn has_plain_settings(listing: &Listing) -> bool
+    ensures { result ≡ has_plain_settings listing.now }
 {
-    text.split_at(letter_count(text))
+    matches!(listing.engine, Engine::On)
+        && listing.request_body
+        && listing.request_limit == 131072
+        && listing.limit_reject
+        && !listing.response_body
 }
 
-fn letter_count(text: &[u8]) -> usize
-    ensures count { result ≡ length (take_while is_upper text.now) }
-    ensures within { result ≤ length text.now }
+fn alone(items: &[Item]) -> Option<MethodRule<'_>>
+    ensures { option_map rule_seen result ≡ alone items.now }
 {
-    text.iter().take_while(|c| is_upper(**c)).count()
+    match items {
+        [Item::Rule(rule)] => denied(rule),
+        _ => None,
+    }
+}
+
+fn denied(rule: &Rule) -> Option<MethodRule<'_>>
+    ensures { option_map rule_seen result ≡ denied rule.now }
+{
+    if !denies(rule) {
+        return None;
+    }
+    match method_of(rule.links.as_slice()) {
+        Some(method) => Some(MethodRule {
+            method,
+            id: rule.id,
+        }),
+        None => None,
+    }
+}
+
+fn denies(rule: &Rule) -> bool
+    ensures { result ≡ denies rule.now }
+{
+    rule.phase == 1
+        && matches!(rule.disrupt, Disrupt::Deny)
+        && rule.status == 0
+        && rule.log
+        && rule.msg.as_slice().len() == 0
+        && rule.logdata.as_slice().len() == 0
+        && rule.tags.as_slice().len() == 0
+        && rule.skip == 0
+        && matches!(rule.skip_after, None)
+}
+
+fn method_of(links: &[Link]) -> Option<&[u8]>
+    ensures { option_map (λ method. method.now) result ≡ method_of links.now }
+{
+    let [link] = links else {
+        return None;
+    };
+    if is_bare(link) && asks_the_method(link.targets.as_slice()) {
+        compared(&link.op)
+    } else {
+        None
+    }
+}
+
+fn is_bare(link: &Link) -> bool
+    ensures { result ≡ is_bare link.now }
+{
+    !link.always
+        && !link.negated
+        && !link.capture
+        && !link.multi
+        && link.transforms.as_slice().len() == 0
+        && link.setvars.as_slice().len() == 0
+        && link.ctls.as_slice().len() == 0
+}
+
+fn asks_the_method(targets: &[Target]) -> bool
+    ensures { result ≡ asks_the_method targets.now }
+{
+    match targets {
+        [target] => {
+            matches!(target.var, Var::RequestMethod)
+                && matches!(target.select, Select::All)
+                && !target.count
+                && !target.exclude
+        }
+        _ => false,
+    }
+}
+
+fn compared(op: &Op) -> Option<&[u8]>
+    ensures { option_map (λ method. method.now) result ≡ compared op.now }
+{
+    if matches!(op.kind, OpKind::Streq) {
+        method_in(op.text.as_slice())
+    } else {
+        None
+    }
+}
+
+fn method_in(text: &[Part]) -> Option<&[u8]>
+    ensures { option_map (λ method. method.now) result ≡ method_in text.now }
+{
+    match text {
+        [Part::Text(text)] => {
+            let method = text.as_slice();
+            if is_method(method) {
+                Some(method)
+            } else {
+                None
+            }
+        }
+        _ => None,
+    }
+}
+
+// 1 to 32 letters A to Z.
+fn is_method(text: &[u8]) -> bool
+    ensures { result ≡ is_method text.now }
+{
+    text.len() != 0 && text.len() <= 32 && are_upper(text)
+}
+
+fn are_upper(text: &[u8]) -> bool
+    ensures { result ≡ list_all is_upper text.now }
+{
+    text.iter().all(|c| is_upper(*c))
 }
 
 fn is_upper(c: u8) -> bool
     ensures { result ≡ is_upper c }
 {
     65 <= c && c <= 90
-}
-
-// The digits at the front, and what follows them.
-fn digits(text: &[u8]) -> (&[u8], &[u8])
-    ensures front { result.0.now ≡ take_while is_digit text.now }
-    ensures rest { result.1.now ≡ drop (length (take_while is_digit text.now)) text.now }
-{
-    text.split_at(digit_count(text))
-}
-
-fn digit_count(text: &[u8]) -> usize
-    ensures count { result ≡ length (take_while is_digit text.now) }
-    ensures within { result ≤ length text.now }
-{
-    text.iter().take_while(|c| is_digit(**c)).count()
-}
-
-fn is_digit(c: u8) -> bool
-    ensures { result ≡ is_digit c }
-{
-    48 <= c && c <= 57
-}
-
-// 1 to 32 letters, 1 to 9 digits of which the first is not 0, and a line end or none.
-fn is_fit(method: &[u8], digits: &[u8], end: &[u8]) -> bool
-    ensures fit { result ≡ is_fit method.now digits.now end.now }
-    ensures few { IsTrue result → length digits.now ≤ 9 }
-{
-    method.len() != 0
-        && method.len() <= 32
-        && digits.len() != 0
-        && digits.len() <= 9
-        && digits[0] != 48
-        && (end.len() == 0 || (end.len() == 1 && end[0] == 10))
-}
-
-// The number that at most nine digits stand for.
-fn number_of(digits: &[u8]) -> u64
-    requires { length digits.now ≤ 9 }
-    ensures { result ≡ number_of digits.now }
-{
-    let mut number = 0u64;
-    for digit in digits {
-        number = number * 10 + u64::from(digit.saturating_sub(48));
-    }
-    number
 }

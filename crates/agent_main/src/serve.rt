@@ -1,17 +1,15 @@
-ghost use Rattle.std.specs.Prelude.{◌≡◌, ◌≢◌, ◌<◌, ◌≤◌, IfSome, length, Some, ℕ};
+ghost use Rattle.std.specs.Prelude.{◌≡◌, ◌≢◌, ◌<◌, ◌≤◌, IfSome, length, List, None, Option, Some, true, ℕ};
 ghost use Rattle.waf_io.specs.Counts.{Rose};
 ghost use Rattle.waf_io.specs.Source.{Reads};
-ghost use Rattle.spop_hello.specs.Frames.{disconnect};
-ghost use Rattle.agent_main.specs.Connection.{connection};
+ghost use Rattle.conn_core.specs.Calls.{At};
+ghost use Rattle.conn_core.specs.Stands.{calls_left, listens, opening, Stands};
 ghost use Rattle.agent_main.specs.RuleSeen.{rule_seen};
 
-use crate::closing::Closing;
+use crate::judge::{Talk, begin, enter, finish, leave, look, park, resume, retire};
 use crate::rule::MethodRule;
-use crate::talk::Talk;
-use spop_hello::disconnect_frame;
+use conn_core::{Closing, Conn, Need};
 use std::alloc::Global;
 use waf_io::{Got, Sink, Source, Wrote, write_whole};
-use waf_plain::{Bytes, NoMemory};
 
 // The longest frame that the agent offers to take, and as many bytes as it takes of one connection.
 const OWN_SIZE: u32 = 16380;
@@ -22,12 +20,26 @@ const MOST_BYTES: u64 = 4611686018427387904;
 #[derive(Clone, Copy, Debug, PartialEq, Eq)]
 pub enum End {
     Closed(Closing),
+    // as many bytes were taken as ever are
+    Spent,
     ReadFault,
     WriteFault,
+    // there was no memory to begin with
     NoMemory,
 }
 
-ghost use Rattle.agent_main.specs.Run.{fed, GivesUp, Hears, Serves};
+// Where a connection stands when its needs were done.
+#[derive(Clone, Copy, Debug, PartialEq, Eq)]
+pub enum Turn {
+    // it waits for bytes
+    Waits,
+    Closes(Closing),
+    // a write failed
+    Fails,
+}
+
+ghost use Rattle.agent_main.specs.Connection.{Ends};
+ghost use Rattle.agent_main.specs.Steps.{EndsHere, Hears, Point, Runs, Stepped, Turns};
 
 // Serves one connection under that rule, piece by piece.
 pub fn serve<S: Source, K: Sink>(
@@ -36,33 +48,50 @@ pub fn serve<S: Source, K: Sink>(
     input: &mut S,
     output: &mut K,
 ) -> End
-    ensures served { IfSome (S.left input.old) (λ bytes.
-        Serves result (connection (rule_seen rule.now) 16380 bytes) (K.held output.old) (K.held output.new)) }
+    ensures served { IfSome (S.left input.old) (λ bytes. Ends result (rule_seen rule.now) 16380 bytes (K.held output.old) (K.held output.new)) }
     ensures read_fault { result ≡ End.ReadFault → Rose (S.faults input.old) (S.faults input.new) }
     ensures write_fault { result ≡ End.WriteFault → Rose (K.faults output.old) (K.faults output.new) }
 {
-    let mut last = Bytes::new(alloc);
-    let Ok(()) = disconnect_frame(alloc, 13, &mut last) else {
+    let Ok(mut talk) = Conn::new(alloc, OWN_SIZE) else {
         return End::NoMemory;
     };
-    let mut talk = Talk::new(alloc, OWN_SIZE);
+    let end = serve_pieces(rule, &mut talk, input, output);
+    let_go(talk);
+    end
+}
+
+fn let_go(_talk: Talk) {}
+
+// Hears the input piece by piece, up to the end of the connection.
+fn serve_pieces<S: Source, K: Sink>(
+    rule: &MethodRule<'_>,
+    talk: &mut Talk,
+    input: &mut S,
+    output: &mut K,
+) -> End
+    requires stands { Stands talk.old (opening 16380) }
+    requires listens { listens talk.old ≡ true }
+    ensures served { IfSome (S.left input.old) (λ bytes. Ends result (rule_seen rule.now) 16380 bytes (K.held output.old) (K.held output.new)) }
+    ensures read_fault { result ≡ End.ReadFault → Rose (S.faults input.old) (S.faults input.new) }
+    ensures write_fault { result ≡ End.WriteFault → Rose (K.faults output.old) (K.faults output.new) }
+{
     let mut buffer = [0u8; 4096];
     let mut taken = 0u64;
     while taken < MOST_BYTES {
         let room = (MOST_BYTES - taken).min(4096) as usize;
         match read_piece(input, room, &mut buffer) {
             Got::Failed => return End::ReadFault,
-            Got::End => return End::Closed(talk.at_end()),
+            Got::End => return hear_end(rule, talk, output),
             Got::Bytes(count) => {
                 taken += count;
                 let piece = buffer.split_at(count as usize).0;
-                if let Some(end) = hear(alloc, rule, piece, last.as_slice(), &mut talk, output) {
+                if let Some(end) = hear(rule, piece, talk, output) {
                     return end;
                 }
             }
         }
     }
-    End::Closed(Closing::Spent)
+    End::Spent
 }
 
 // Reads at most so many bytes to the front of the buffer.
@@ -78,49 +107,129 @@ fn read_piece<S: Source>(input: &mut S, room: usize, buffer: &mut [u8]) -> Got
     input.read(&mut buffer[..room])
 }
 
-// Answers what a piece of the input brings; `Some` where the connection ends with it.
+// A piece of the input comes; `Some` where the connection ends with it.
 fn hear<K: Sink>(
-    alloc: Global,
     rule: &MethodRule<'_>,
     piece: &[u8],
-    last: &[u8],
     talk: &mut Talk,
     output: &mut K,
 ) -> Option<End>
-    requires { last.now ≡ disconnect 13 }
-    ensures heard { Hears (rule_seen rule.now) result (fed talk.old piece.now) talk.new (K.held output.old) (K.held output.new) }
+    requires { (old : Option (List ℕ)) × (s : Point) × Runs (rule_seen rule.now) talk.old s old (K.held output.old) }
+    ensures heard { Hears (rule_seen rule.now) piece.now result talk.old talk.new (K.held output.old) (K.held output.new) }
     ensures later { K.faults output.old ≤ K.faults output.new }
-    ensures write_fault { result ≡ Some End.WriteFault → Rose (K.faults output.old) (K.faults output.new) }
     ensures no_read { result ≢ Some End.ReadFault }
+    ensures cause { result ≡ Some End.WriteFault → Rose (K.faults output.old) (K.faults output.new) }
 {
-    let Ok(()) = talk.feed(piece) else {
-        return Some(give_up(b"", last, output));
-    };
-    let mut out = Bytes::new(alloc);
-    match talk.answer_held(alloc, rule, &mut out) {
-        Err(NoMemory) => Some(give_up(out.as_slice(), last, output)),
-        Ok(None) => match write_whole(output, out.as_slice()) {
-            Wrote::Failed => Some(End::WriteFault),
-            Wrote::All => None,
-        },
-        Ok(Some(how)) => match write_whole(output, out.as_slice()) {
-            Wrote::Failed => Some(End::WriteFault),
-            Wrote::All => Some(End::Closed(how)),
-        },
+    talk.feed(piece);
+    match advance(rule, talk, output) {
+        Turn::Waits => None,
+        Turn::Closes(how) => Some(End::Closed(how)),
+        Turn::Fails => Some(End::WriteFault),
     }
 }
 
-// Writes what was said so far, and then the DISCONNECT for want of memory.
-fn give_up<K: Sink>(said: &[u8], last: &[u8], output: &mut K) -> End
-    ensures gives { GivesUp result said.now last.now (K.held output.old) (K.held output.new) }
-    ensures later { K.faults output.old ≤ K.faults output.new }
-    ensures write_fault { result ≡ End.WriteFault → Rose (K.faults output.old) (K.faults output.new) }
+// The input has ended, and with it the connection.
+fn hear_end<K: Sink>(rule: &MethodRule<'_>, talk: &mut Talk, output: &mut K) -> End
+    requires runs { (old : Option (List ℕ)) × (s : Point) × Runs (rule_seen rule.now) talk.old s old (K.held output.old) }
+    requires listens { listens talk.old ≡ true }
+    ensures ended { EndsHere (rule_seen rule.now) result talk.old talk.new (K.held output.old) (K.held output.new) }
+    ensures no_read { result ≢ End.ReadFault }
+    ensures cause { result ≡ End.WriteFault → Rose (K.faults output.old) (K.faults output.new) }
 {
-    match write_whole(output, said) {
-        Wrote::Failed => End::WriteFault,
-        Wrote::All => match write_whole(output, last) {
-            Wrote::Failed => End::WriteFault,
-            Wrote::All => End::NoMemory,
-        },
+    talk.end();
+    match advance(rule, talk, output) {
+        Turn::Waits => unreachable!(),
+        Turn::Closes(how) => End::Closed(how),
+        Turn::Fails => End::WriteFault,
+    }
+}
+
+// Does what the connection needs, up to the next bytes, or its close.
+fn advance<K: Sink>(rule: &MethodRule<'_>, talk: &mut Talk, output: &mut K) -> Turn
+    requires { (old : Option (List ℕ)) × (s : Point) × Runs (rule_seen rule.now) talk.old s old (K.held output.old) }
+    ensures turns { Turns (rule_seen rule.now) result talk.old talk.new (K.held output.old) (K.held output.new) }
+    ensures later { K.faults output.old ≤ K.faults output.new }
+    ensures cause { result ≡ Turn.Fails → Rose (K.faults output.old) (K.faults output.new) }
+{
+    loop {
+        if let Some(turn) = step(rule, talk, output) {
+            return turn;
+        }
+    }
+}
+
+// Does the next thing that the connection needs; `Some` where that is bytes, or its close.
+fn step<K: Sink>(rule: &MethodRule<'_>, talk: &mut Talk, output: &mut K) -> Option<Turn>
+    requires { (old : Option (List ℕ)) × (s : Point) × Runs (rule_seen rule.now) talk.old s old (K.held output.old) }
+    ensures stepped { Stepped (rule_seen rule.now) result talk.old talk.new (K.held output.old) (K.held output.new) }
+    ensures fewer { result ≡ None → calls_left talk.new < calls_left talk.old }
+    ensures later { K.faults output.old ≤ K.faults output.new }
+    ensures cause { result ≡ Some Turn.Fails → Rose (K.faults output.old) (K.faults output.new) }
+{
+    match talk.need() {
+        Need::Bytes => Some(Turn::Waits),
+        Need::Close => Some(closed(talk)),
+        Need::Write => write(talk, output),
+        Need::Look => {
+            look(talk);
+            None
+        }
+        Need::Enter => {
+            enter(talk);
+            None
+        }
+        Need::Begin => {
+            begin(rule, talk);
+            None
+        }
+        Need::Park => {
+            park(talk);
+            None
+        }
+        Need::Leave => {
+            leave(talk);
+            None
+        }
+        Need::Retire => {
+            retire(talk);
+            None
+        }
+        Need::Resume => {
+            resume(talk);
+            None
+        }
+        Need::Finish => {
+            finish(talk);
+            None
+        }
+    }
+}
+
+// Writes what is to be written.
+fn write<K: Sink>(talk: &mut Talk, output: &mut K) -> Option<Turn>
+    requires { At Need.Write talk.old.broken talk.old.stage }
+    ensures stepped { (rule : _) → Stepped rule result talk.old talk.new (K.held output.old) (K.held output.new) }
+    ensures fewer { result ≡ None → calls_left talk.new < calls_left talk.old }
+    ensures later { K.faults output.old ≤ K.faults output.new }
+    ensures cause { result ≡ Some Turn.Fails → Rose (K.faults output.old) (K.faults output.new) }
+{
+    match write_whole(output, talk.out()) {
+        Wrote::Failed => Some(Turn::Fails),
+        Wrote::All => {
+            talk.written();
+            None
+        }
+    }
+}
+
+// How it closed.
+fn closed(talk: &Talk) -> Turn
+    requires { At Need.Close talk.now.broken talk.now.stage }
+    ensures turns { (rule : _) (held : Option (List ℕ)) → Turns rule result talk.now talk.now held held }
+    ensures closes { result ≢ Turn.Fails }
+{
+    match talk.closing() {
+        Some(how) => Turn::Closes(how),
+        None => unreachable!(),
     }
 }

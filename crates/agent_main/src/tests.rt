@@ -203,18 +203,6 @@ const CASES: &[(&str, &[u8], u8, &[u8])] = &[
         1,
         b"\x00\x00\x00@e\x00\x00\x00\x01\x00\x00\x07version\x08\x032.0\x0emax-frame-size\x03\xfc\xf0\x06\x0ccapabilities\x08\x0apipelining\x00\x00\x00:f\x00\x00\x00\x01\x00\x00\x0bstatus-code\x03\x0a\x07message\x08\x1bfragmentation not supported",
     ),
-    (
-        "a request of another form",
-        b"\x00\x00\x00K\x01\x00\x00\x00\x01\x00\x00\x12supported-versions\x08\x032.0\x0emax-frame-size\x03\xfc\xf0\x06\x0ccapabilities\x08\x0apipelining\x00\x00\x00\x13\x03\x00\x00\x00\x01\x07\x01\x0acoraza-res\x00",
-        1,
-        b"\x00\x00\x00@e\x00\x00\x00\x01\x00\x00\x07version\x08\x032.0\x0emax-frame-size\x03\xfc\xf0\x06\x0ccapabilities\x08\x0apipelining\x00\x00\x00,f\x00\x00\x00\x01\x00\x00\x0bstatus-code\x03\x04\x07message\x08\x0dinvalid frame",
-    ),
-    (
-        "no message",
-        b"\x00\x00\x00K\x01\x00\x00\x00\x01\x00\x00\x12supported-versions\x08\x032.0\x0emax-frame-size\x03\xfc\xf0\x06\x0ccapabilities\x08\x0apipelining\x00\x00\x00\x07\x03\x00\x00\x00\x01\x07\x01",
-        0,
-        b"\x00\x00\x00@e\x00\x00\x00\x01\x00\x00\x07version\x08\x032.0\x0emax-frame-size\x03\xfc\xf0\x06\x0ccapabilities\x08\x0apipelining\x00\x00\x00\x07g\x00\x00\x00\x01\x07\x01",
-    ),
 ];
 
 #[test]
@@ -228,6 +216,129 @@ fn whole_inputs(rt: HostRuntime) -> Result<(), Fail> {
             "at {what}"
         );
     }
+    Ok(())
+}
+
+// What HAProxy says behind its offer, and what is answered behind the agent's HELLO.
+const TALKS: &[(&'static str, &[u8], &[u8])] = &[
+    (
+        "no message",
+        b"\x00\x00\x00\x07\x03\x00\x00\x00\x01\x07\x01",
+        b"\x00\x00\x00\x07g\x00\x00\x00\x01\x07\x01",
+    ),
+    (
+        "a message of an unknown name is passed over",
+        b"\x00\x00\x004\x03\x00\x00\x00\x01\x07\x01\x05other\x01\x02id\x08\x02a1\x0acoraza-req\x02\x02id\x08\x02a1\x06method\x08\x03GET",
+        b"\x00\x00\x00\x11g\x00\x00\x00\x01\x07\x01\x01\x03\x02\x02id\x08\x02a1",
+    ),
+    (
+        "two messages of one frame",
+        b"\x00\x00\x00F\x03\x00\x00\x00\x01\x07\x01\x0acoraza-req\x02\x02id\x08\x02a1\x06method\x08\x04POST\x0acoraza-req\x02\x02id\x08\x02a2\x06method\x08\x03GET",
+        b"\x00\x00\x00Dg\x00\x00\x00\x01\x07\x01\x01\x03\x02\x02id\x08\x02a1\x01\x03\x02\x06action\x08\x04deny\x01\x03\x02\x06status\x03\xf3\x0a\x01\x03\x02\x06ruleid\x03d\x01\x03\x02\x02id\x08\x02a2",
+    ),
+    (
+        "the arguments in another order, and one that nobody knows",
+        b"\x00\x00\x000\x03\x00\x00\x00\x01\x07\x01\x0acoraza-req\x03\x06method\x08\x04POST\x06colour\x03\x07\x02id\x08\x02a1",
+        b"\x00\x00\x00:g\x00\x00\x00\x01\x07\x01\x01\x03\x02\x02id\x08\x02a1\x01\x03\x02\x06action\x08\x04deny\x01\x03\x02\x06status\x03\xf3\x0a\x01\x03\x02\x06ruleid\x03d",
+    ),
+    (
+        "every argument as HAProxy sends it",
+        b"\x00\x00\x00\xa6\x03\x00\x00\x00\x01\x07\x01\x0acoraza-req\x0c\x03app\x08\x00\x02id\x08\x02a1\x06src-ip\x06\xc0\x00\x02\x01\x08src-port\x04\xf0\xb5\x12\x06dst-ip\x06\xc63d\x07\x08dst-port\x04\xfb\x0c\x06method\x08\x04POST\x04path\x08\x07/search\x05query\x00\x07version\x08\x031.1\x07headers\x08\x15host: example.org\x0d\x0a\x0d\x0a\x04body\x09\x00",
+        b"\x00\x00\x00:g\x00\x00\x00\x01\x07\x01\x01\x03\x02\x02id\x08\x02a1\x01\x03\x02\x06action\x08\x04deny\x01\x03\x02\x06status\x03\xf3\x0a\x01\x03\x02\x06ruleid\x03d",
+    ),
+    (
+        "the later of two arguments wins",
+        b"\x00\x00\x003\x03\x00\x00\x00\x01\x07\x01\x0acoraza-req\x03\x02id\x08\x02a1\x06method\x08\x03GET\x06method\x08\x04POST",
+        b"\x00\x00\x00:g\x00\x00\x00\x01\x07\x01\x01\x03\x02\x02id\x08\x02a1\x01\x03\x02\x06action\x08\x04deny\x01\x03\x02\x06status\x03\xf3\x0a\x01\x03\x02\x06ruleid\x03d",
+    ),
+];
+
+// Messages that are refused, with the argument that is bad, or by an error.
+const REFUSALS: &[(&'static str, &[u8], &[u8])] = &[
+    (
+        "no arguments",
+        b"\x00\x00\x00\x13\x03\x00\x00\x00\x01\x07\x01\x0acoraza-req\x00",
+        b"\x00\x00\x00\x1eg\x00\x00\x00\x01\x07\x01\x01\x03\x02\x04data\x08\x02id\x01\x03\x02\x05error\x03\x05",
+    ),
+    (
+        "no method",
+        b"\x00\x00\x00\x1a\x03\x00\x00\x00\x01\x07\x01\x0acoraza-req\x01\x02id\x08\x02a1",
+        b"\x00\x00\x00,g\x00\x00\x00\x01\x07\x01\x01\x03\x02\x02id\x08\x02a1\x01\x03\x02\x04data\x08\x06method\x01\x03\x02\x05error\x03\x05",
+    ),
+    (
+        "no identifier, and no method",
+        b"\x00\x00\x00\x1c\x03\x00\x00\x00\x01\x07\x01\x0acoraza-req\x01\x06method\x08\x00",
+        b"\x00\x00\x00\x1eg\x00\x00\x00\x01\x07\x01\x01\x03\x02\x04data\x08\x02id\x01\x03\x02\x05error\x03\x05",
+    ),
+    (
+        "an identifier that is NULL",
+        b"\x00\x00\x00#\x03\x00\x00\x00\x01\x07\x01\x0acoraza-req\x02\x02id\x00\x06method\x08\x03GET",
+        b"\x00\x00\x00\x1eg\x00\x00\x00\x01\x07\x01\x01\x03\x02\x04data\x08\x02id\x01\x03\x02\x05error\x03\x05",
+    ),
+    (
+        "a port that is a text comes before the method",
+        b"\x00\x00\x001\x03\x00\x00\x00\x01\x07\x01\x0acoraza-req\x03\x02id\x08\x02a1\x06method\x08\x00\x08dst-port\x08\x03443",
+        b"\x00\x00\x00.g\x00\x00\x00\x01\x07\x01\x01\x03\x02\x02id\x08\x02a1\x01\x03\x02\x04data\x08\x08dst-port\x01\x03\x02\x05error\x03\x05",
+    ),
+    (
+        "a body that is a number",
+        b"\x00\x00\x00-\x03\x00\x00\x00\x01\x07\x01\x0acoraza-req\x03\x02id\x08\x02a1\x06method\x08\x03GET\x04body\x03\x01",
+        b"\x00\x00\x00*g\x00\x00\x00\x01\x07\x01\x01\x03\x02\x02id\x08\x02a1\x01\x03\x02\x04data\x08\x04body\x01\x03\x02\x05error\x03\x05",
+    ),
+    (
+        "a response to nothing",
+        b"\x00\x00\x00#\x03\x00\x00\x00\x01\x09\x01\x0acoraza-res\x02\x02id\x08\x02a1\x06status\x03\xc8",
+        b"\x00\x00\x00\x1cg\x00\x00\x00\x01\x09\x01\x01\x03\x02\x02id\x08\x02a1\x01\x03\x02\x05error\x03\x04",
+    ),
+    (
+        "a response without status",
+        b"\x00\x00\x00\x1a\x03\x00\x00\x00\x01\x09\x01\x0acoraza-res\x01\x02id\x08\x02a1",
+        b"\x00\x00\x00,g\x00\x00\x00\x01\x09\x01\x01\x03\x02\x02id\x08\x02a1\x01\x03\x02\x04data\x08\x06status\x01\x03\x02\x05error\x03\x05",
+    ),
+    (
+        "a response of status 1000",
+        b"\x00\x00\x00$\x03\x00\x00\x00\x01\x09\x01\x0acoraza-res\x02\x02id\x08\x02a1\x06status\x03\xf8/",
+        b"\x00\x00\x00,g\x00\x00\x00\x01\x09\x01\x01\x03\x02\x02id\x08\x02a1\x01\x03\x02\x04data\x08\x06status\x01\x03\x02\x05error\x03\x05",
+    ),
+    (
+        "a message whose argument is of no type",
+        b"\x00\x00\x00\x17\x03\x00\x00\x00\x01\x07\x01\x0acoraza-req\x01\x02id\x0a",
+        b"\x00\x00\x00,f\x00\x00\x00\x01\x00\x00\x0bstatus-code\x03\x04\x07message\x08\x0dinvalid frame",
+    ),
+];
+
+fn both(alloc: Global, first: &[u8], then: &[u8]) -> Result<Bytes, NoMemory> {
+    let mut bytes = Bytes::copy(alloc, first)?;
+    bytes.append(then)?;
+    Ok(bytes)
+}
+
+// The first row that is answered otherwise.
+fn answered_otherwise(
+    alloc: Global,
+    table: &[(&'static str, &[u8], &[u8])],
+) -> Result<Option<&'static str>, NoMemory> {
+    for (what, said, answered) in table {
+        let input = both(alloc, HELLO, *said)?;
+        let wanted = both(alloc, ANSWER, *answered)?;
+        let mut input = source(alloc, input.as_slice(), &[])?;
+        let (_, written) = run(alloc, RULES, &mut input, &[])?;
+        if written.as_slice() != wanted.as_slice() {
+            return Ok(Some(*what));
+        }
+    }
+    Ok(None)
+}
+
+#[test]
+fn requests_behind_an_offer(rt: HostRuntime) -> Result<(), Fail> {
+    assert_eq!(rt; answered_otherwise(rt.alloc(), TALKS)?, None);
+    Ok(())
+}
+
+#[test]
+fn messages_that_are_refused(rt: HostRuntime) -> Result<(), Fail> {
+    assert_eq!(rt; answered_otherwise(rt.alloc(), REFUSALS)?, None);
     Ok(())
 }
 
@@ -265,23 +376,45 @@ fn a_request_cut_after_each_byte(rt: HostRuntime) -> Result<(), Fail> {
     Ok(())
 }
 
-// Rule files that are refused, reads that fail and writes that fail.
+// Rule files, and what is printed where they are refused.
+const RULE_FILES: &[(&[u8], &[u8])] = &[
+    (b"", b"not built yet\n"),
+    (
+        b"SecRule REQUEST_METHOD \"@streq post\" \"id:100,phase:1,deny\"",
+        b"not built yet\n",
+    ),
+    (
+        b"SecRule REQUEST_METHOD \"@streq POST\" \"id:100,phase:1,deny,nolog\"",
+        b"not built yet\n",
+    ),
+    (
+        b"SecRule REQUEST_METHOD \"@streq POST\" \"id:0100,phase:1,deny\"",
+        b"rules:1: BadWord id:0100\n",
+    ),
+    (
+        b"# one\n\nSecFoo On\nSecBar On\n",
+        b"rules:3: UnknownDirective SecFoo\n",
+    ),
+    (
+        b"SecRule REQUEST_METHOD \"@streq POST\" \"id:100,phase:1,deny,chain\"\n",
+        b"rules:1: OpenChain\n",
+    ),
+];
+
+#[test]
+fn rule_files_that_are_refused(rt: HostRuntime) -> Result<(), Fail> {
+    let alloc = rt.alloc();
+    for (rules, line) in RULE_FILES {
+        let (status, written) = run(alloc, *rules, &mut source(alloc, HELLO, &[])?, &[])?;
+        assert_eq!(rt; (status, written.as_slice()), (3, *line));
+    }
+    Ok(())
+}
+
+// Reads that fail and writes that fail.
 #[test]
 fn causes(rt: HostRuntime) -> Result<(), Fail> {
     let alloc = rt.alloc();
-    for rules in [
-        b"".as_slice(),
-        b"SecRule REQUEST_METHOD \"@streq POST\" \"id:0100,phase:1,deny\"".as_slice(),
-        b"SecRule REQUEST_METHOD \"@streq post\" \"id:100,phase:1,deny\"".as_slice(),
-        b"SecRule REQUEST_METHOD \"@streq POST\" \"id:100,phase:1,deny\"\n\n".as_slice(),
-        b"SecRule REQUEST_METHOD \"@streq POST\" \"id:1000000000,phase:1,deny\"".as_slice(),
-    ] {
-        let (status, written) = run(alloc, rules, &mut source(alloc, HELLO, &[])?, &[])?;
-        assert_eq!(rt;
-            (status, written.as_slice()),
-            (3, b"not built yet\n".as_slice())
-        );
-    }
     let (status, written) = run(alloc, RULES, &mut source(alloc, HELLO, &[0])?, &[])?;
     assert_eq!(rt; (status, written.as_slice()), (4, b"".as_slice()));
     let (status, written) = run(alloc, RULES, &mut source(alloc, HELLO, &[1])?, &[])?;
@@ -291,24 +424,84 @@ fn causes(rt: HostRuntime) -> Result<(), Fail> {
     Ok(())
 }
 
-// Words that no command takes, and a file that can't be read.
+fn words(alloc: Global, command: &[u8], name: &[u8]) -> Result<Seq<Bytes>, NoMemory> {
+    let mut words = Seq::new(alloc);
+    words.push(Bytes::copy(alloc, command)?)?;
+    words.push(Bytes::copy(alloc, name)?)?;
+    Ok(words)
+}
+
+// Words that no command takes, a file that can't be read, and one that is absent.
 #[test]
 fn other_words(rt: HostRuntime) -> Result<(), Fail> {
     let alloc = rt.alloc();
-    let mut words = Seq::new(alloc);
-    words.push(Bytes::copy(alloc, b"once")?)?;
-    words.push(Bytes::new(alloc))?;
     let mut sink = MemSink::new(alloc, 4096, Seq::new(alloc))?;
     let mut files = MemFiles::new(one_file(alloc, RULES)?, calls(alloc, &[0])?);
     let mut input = source(alloc, HELLO, &[])?;
     assert_eq!(rt;
-        offline_main(alloc, words, &mut files, &mut input, &mut sink),
+        offline_main(alloc, words(alloc, b"once", b"")?, &mut files, &mut input, &mut sink),
         2
     );
-    assert_eq!(rt; sink.bytes(), b"usage: yefontsila once RULES\n".as_slice());
+    assert_eq!(rt; sink.bytes(), b"usage: yefontsila check CONF | once RULES\n".as_slice());
     assert_eq!(rt;
         offline_main(alloc, once(alloc)?, &mut files, &mut input, &mut sink),
         4
     );
+    let (status, written) = checked(alloc, &[])?;
+    assert_eq!(rt; (status, written.as_slice()), (3, b"etc/agent.toml: NoFile\n".as_slice()));
+    Ok(())
+}
+
+// The status of a run of `check etc/agent.toml` over these files, and what it wrote.
+fn checked(alloc: Global, files: &[(&[u8], &[u8])]) -> Result<(u8, Bytes), NoMemory> {
+    let mut contents = Seq::new(alloc);
+    for (name, content) in files {
+        contents.push(MemFile {
+            name: Bytes::copy(alloc, *name)?,
+            content: Bytes::copy(alloc, *content)?,
+        })?;
+    }
+    let mut files = SureFiles::new(contents);
+    let mut sink = MemSink::new(alloc, 4096, Seq::new(alloc))?;
+    let mut input = source(alloc, b"", &[])?;
+    let status = offline_main(
+        alloc,
+        words(alloc, b"check", b"etc/agent.toml")?,
+        &mut files,
+        &mut input,
+        &mut sink,
+    );
+    Ok((status, Bytes::copy(alloc, sink.bytes())?))
+}
+
+const TWO_APPS: &[u8] =
+    b"[[app]]\nname = \"site\"\nrules = [\"a.conf\", \"/b.conf\"]\n[[app]]\nname = \"\"\nrules = []\n";
+
+const LISTINGS: &[u8] = b"app site\nSecRuleEngine \"On\"\nSecRequestBodyAccess \"On\"\nSecRequestBodyLimit \"131072\"\nSecRequestBodyLimitAction \"Reject\"\nSecResponseBodyAccess \"Off\"\nSecRule \"REQUEST_METHOD\" \"@streq POST\" \"id:100,phase:1,deny,log\"\nSecMarker \"END\"\napp \nSecRuleEngine \"On\"\nSecRequestBodyAccess \"On\"\nSecRequestBodyLimit \"131072\"\nSecRequestBodyLimitAction \"Reject\"\nSecResponseBodyAccess \"Off\"\n";
+
+#[test]
+fn a_check_of_two_applications(rt: HostRuntime) -> Result<(), Fail> {
+    let alloc = rt.alloc();
+    let (status, written) = checked(
+        alloc,
+        &[
+            (b"etc/agent.toml", TWO_APPS),
+            (b"etc/a.conf", RULES),
+            (b"/b.conf", b"SecMarker END"),
+        ],
+    )?;
+    assert_eq!(rt; (status, written.as_slice()), (0, LISTINGS));
+    Ok(())
+}
+
+#[test]
+fn a_check_that_is_refused(rt: HostRuntime) -> Result<(), Fail> {
+    let alloc = rt.alloc();
+    let (status, written) = checked(alloc, &[(b"etc/agent.toml", b"sise = 1\n")])?;
+    assert_eq!(rt; (status, written.as_slice()), (3, b"etc/agent.toml: UnknownKey sise\n".as_slice()));
+    let (status, written) = checked(alloc, &[(b"etc/agent.toml", TWO_APPS), (b"etc/a.conf", b"\nSecFoo On\n")])?;
+    assert_eq!(rt; (status, written.as_slice()), (3, b"etc/a.conf:2: UnknownDirective SecFoo\n".as_slice()));
+    let (status, written) = checked(alloc, &[(b"etc/agent.toml", TWO_APPS), (b"etc/a.conf", RULES)])?;
+    assert_eq!(rt; (status, written.as_slice()), (3, b"/b.conf: NoFile\n".as_slice()));
     Ok(())
 }

@@ -1,18 +1,18 @@
 ghost use Rattle.std.specs.Prelude.{◌≡◌};
 ghost use Rattle.std.specs.Option.{option_map};
-ghost use Rattle.agent_main.specs.Words.{rules_named};
+ghost use Rattle.agent_main.specs.Words.{named_by};
 
 use crate::reading::is_same;
 use waf_plain::Bytes;
 
-// The name of the rule file, where the words are `once` and one more that is not empty.
-pub fn rules_named(words: &[Bytes]) -> Option<&[u8]>
-    ensures { option_map (λ name. name.now) result ≡ rules_named words.now }
+// The name behind a command, where the words are that command and one more that is not empty.
+pub fn named_by<'a>(command: &[u8], words: &'a [Bytes]) -> Option<&'a [u8]>
+    ensures { option_map (λ name. name.now) result ≡ named_by command.now words.now }
 {
-    let [command, name] = words else {
+    let [word, name] = words else {
         return None;
     };
-    if is_same(command.as_slice(), b"once") && name.len() != 0 {
+    if is_same(word.as_slice(), command) && name.len() != 0 {
         Some(name.as_slice())
     } else {
         None

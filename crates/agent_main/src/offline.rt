@@ -1,0 +1,67 @@
+ghost use Rattle.std.specs.Prelude.{◌≡◌, ◌⊎◌, Err, IfSome, List, None, Ok, Some, ℕ};
+ghost use Rattle.waf_io.specs.Counts.{Rose};
+ghost use Rattle.agent_main.specs.Check.{checked};
+ghost use Rattle.agent_main.specs.Listings.{rule_under};
+ghost use Rattle.agent_main.specs.Report.{Answers, Prints, Reports};
+ghost use Rattle.agent_main.specs.Rule.{DeniedMethod};
+ghost use Rattle.agent_main.specs.Run.{Exits};
+ghost use Rattle.agent_main.specs.Words.{conf_named, rules_named, usage_line};
+
+use crate::check::check;
+use crate::once::once;
+use crate::report::report;
+use crate::words::named_by;
+use std::alloc::Global;
+use waf_io::{Files, Sink, Source};
+use waf_plain::{Bytes, Seq};
+
+/// Does what the words ask for, and answers the exit status. `check CONF` prints, for each application
+/// of a configuration, its name and its listing in canonical text; `once RULES` serves the one
+/// connection from input to output.
+///
+/// | Status | Comes where |
+/// |---|---|
+/// | 0 | the work was done; for `once`, HAProxy left, the input ended between two frames, or a health check was answered |
+/// | 1 | `once` alone: the input ended within a frame, the agent left with status 3 to 10, or 2^62 bytes were taken |
+/// | 2 | the words are others; the usage line was written |
+/// | 3 | the configuration or a rule file is refused, or is absent or too long; the line of the fault was written |
+/// | 4 | reading a file or the input failed |
+/// | 5 | writing failed |
+/// | 6 | there was no memory |
+pub fn offline_main<F: Files, S: Source, K: Sink>(
+    alloc: Global,
+    words: Seq<Bytes>,
+    files: &mut F,
+    input: &mut S,
+    output: &mut K,
+) -> u8
+    // Words that are not taken
+    ensures usage { conf_named words ≡ None → rules_named words ≡ None → Reports result 2 usage_line (K.held output.old) (K.held output.new) }
+    ensures taken { result ≡ 2 → (conf_named words ≡ None) × (rules_named words ≡ None) }
+
+    // A check, where the files are told: the listings of all applications, or the line of the first fault
+    ensures checked { IfSome (F.content files.old) (λ told. (name : List ℕ) → conf_named words ≡ Some name
+        → Answers result (checked told name) (K.held output.old) (K.held output.new)) }
+
+    // A rule file that is refused, where the files are told
+    ensures refused { IfSome (F.content files.old) (λ told. (name line : List ℕ) → rules_named words ≡ Some name → rule_under told name ≡ Err line
+        → Prints result 3 line (K.held output.old) (K.held output.new)) }
+
+    // The connection under the rule, where files and input are told
+    ensures served { IfSome (F.content files.old) (λ told. IfSome (S.left input.old) (λ bytes.
+        (name : List ℕ) (rule : DeniedMethod) → rules_named words ≡ Some name → rule_under told name ≡ Ok rule
+        → Exits result rule 16380 bytes (K.held output.old) (K.held output.new))) }
+
+    // Causes, whatever is told
+    ensures once_alone { result ≡ 1 → conf_named words ≡ None }
+    ensures read_fault { result ≡ 4 → Rose (F.faults files.old) (F.faults files.new) ⊎ Rose (S.faults input.old) (S.faults input.new) }
+    ensures write_fault { result ≡ 5 → Rose (K.faults output.old) (K.faults output.new) }
+{
+    if let Some(name) = named_by(b"check", words.as_slice()) {
+        return check(alloc, name, files, output);
+    }
+    match named_by(b"once", words.as_slice()) {
+        Some(name) => once(alloc, name, files, input, output),
+        None => report(output, b"usage: yefontsila check CONF | once RULES\n", 2),
+    }
+}
