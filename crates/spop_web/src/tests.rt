@@ -1,4 +1,4 @@
-use crate::{Arg, ArgFault, Asked, Told, request_of, response_of};
+use crate::{Arg, ArgFault, request_of, response_of};
 use spop_data::{Data, Pair};
 use std::alloc::Global;
 use std::test::Fail;
@@ -23,26 +23,42 @@ fn wanted(alloc: Global) -> Result<Seq<Pair>, NoMemory> {
     Ok(args)
 }
 
-// The argument for which a request is refused that has this one behind those that are wanted.
-fn bad_in_request(alloc: Global, name: &[u8], value: Data) -> Result<Option<Arg>, NoMemory> {
-    let mut args = wanted(alloc)?;
-    add(alloc, &mut args, name, value)?;
-    match request_of(alloc, &args) {
-        Ok(_) => Ok(None),
-        Err(ArgFault::Bad { arg, .. }) => Ok(Some(arg)),
-        Err(ArgFault::NoMemory) => Err(NoMemory),
+// The argument of a refusal, where that has the identifier just where it is good.
+fn bad_of(fault: ArgFault) -> Result<Option<Arg>, NoMemory> {
+    match fault {
+        ArgFault::Bad { arg, id: None } if arg == Arg::Id => Ok(Some(arg)),
+        ArgFault::Bad { arg, id: Some(id) } if id.as_slice() == b"a1".as_slice() => Ok(Some(arg)),
+        ArgFault::Bad { .. } => Ok(None),
+        ArgFault::NoMemory => Err(NoMemory),
     }
 }
 
-// The same of a response.
-fn bad_in_response(alloc: Global, name: &[u8], value: Data) -> Result<Option<Arg>, NoMemory> {
+fn bad_in_request(alloc: Global, args: &Seq<Pair>) -> Result<Option<Arg>, NoMemory> {
+    match request_of(alloc, args) {
+        Ok(_) => Ok(None),
+        Err(fault) => bad_of(fault),
+    }
+}
+
+fn bad_in_response(alloc: Global, args: &Seq<Pair>) -> Result<Option<Arg>, NoMemory> {
+    match response_of(alloc, args) {
+        Ok(_) => Ok(None),
+        Err(fault) => bad_of(fault),
+    }
+}
+
+// The argument for which a request is refused that has this one behind those that are wanted.
+fn request_with(alloc: Global, name: &[u8], value: Data) -> Result<Option<Arg>, NoMemory> {
     let mut args = wanted(alloc)?;
     add(alloc, &mut args, name, value)?;
-    match response_of(alloc, &args) {
-        Ok(_) => Ok(None),
-        Err(ArgFault::Bad { arg, .. }) => Ok(Some(arg)),
-        Err(ArgFault::NoMemory) => Err(NoMemory),
-    }
+    bad_in_request(alloc, &args)
+}
+
+// The same of a response.
+fn response_with(alloc: Global, name: &[u8], value: Data) -> Result<Option<Arg>, NoMemory> {
+    let mut args = wanted(alloc)?;
+    add(alloc, &mut args, name, value)?;
+    bad_in_response(alloc, &args)
 }
 
 #[test]
@@ -55,7 +71,7 @@ fn wrong_types_in_a_request(rt: HostRuntime) -> Result<(), Fail> {
         (b"src-port", Data::Ipv4([0, 0, 0, 80]), Arg::SrcPort),
         (b"dst-port", Data::Bool(false), Arg::DstPort),
     ] {
-        assert_eq!(rt; bad_in_request(rt.alloc(), name, value)?, Some(bad));
+        assert_eq!(rt; request_with(rt.alloc(), name, value)?, Some(bad));
     }
     Ok(())
 }
@@ -70,7 +86,7 @@ fn wrong_types_of_texts(rt: HostRuntime) -> Result<(), Fail> {
         (b"headers", Data::Int32(0), Arg::Headers),
         (b"body", Data::Ipv6([0; 16]), Arg::Body),
     ] {
-        assert_eq!(rt; bad_in_request(rt.alloc(), name, value)?, Some(bad));
+        assert_eq!(rt; request_with(rt.alloc(), name, value)?, Some(bad));
     }
     Ok(())
 }
@@ -87,7 +103,7 @@ fn values_out_of_range(rt: HostRuntime) -> Result<(), Fail> {
         (b"src-port", Data::Int32(0), None),
         (b"dst-port", Data::Uint64(65535), None),
     ] {
-        assert_eq!(rt; bad_in_request(rt.alloc(), name, value)?, bad);
+        assert_eq!(rt; request_with(rt.alloc(), name, value)?, bad);
     }
     Ok(())
 }
@@ -101,7 +117,7 @@ fn empty_texts(rt: HostRuntime) -> Result<(), Fail> {
         (b"app", None),
         (b"path", None),
     ] {
-        assert_eq!(rt; bad_in_request(alloc, name, text(alloc, b"")?)?, bad);
+        assert_eq!(rt; request_with(alloc, name, text(alloc, b"")?)?, bad);
     }
     Ok(())
 }
@@ -119,7 +135,7 @@ fn null_is_absent(rt: HostRuntime) -> Result<(), Fail> {
         (b"status", None),
         (b"ID", None),
     ] {
-        assert_eq!(rt; bad_in_request(rt.alloc(), name, Data::Null)?, bad);
+        assert_eq!(rt; request_with(rt.alloc(), name, Data::Null)?, bad);
     }
     Ok(())
 }
@@ -136,7 +152,7 @@ fn status_of_a_response(rt: HostRuntime) -> Result<(), Fail> {
         (Data::Null, false),
         (Data::Bool(true), false),
     ] {
-        let bad = bad_in_response(rt.alloc(), b"status", value)?;
+        let bad = response_with(rt.alloc(), b"status", value)?;
         assert_eq!(rt; bad, if good { None } else { Some(Arg::Status) });
     }
     Ok(())
@@ -153,32 +169,25 @@ fn wrong_types_in_a_response(rt: HostRuntime) -> Result<(), Fail> {
         (b"method", None),
         (b"src-port", None),
     ] {
-        assert_eq!(rt; bad_in_response(rt.alloc(), name, Data::Bool(true))?, bad);
+        assert_eq!(rt; response_with(rt.alloc(), name, Data::Bool(true))?, bad);
     }
     Ok(())
 }
 
-// Nothing is given, then the identifier alone.
 #[test]
-fn missing_arguments(rt: HostRuntime) -> Result<(), Fail> {
+fn no_arguments(rt: HostRuntime) -> Result<(), Fail> {
+    let args = Seq::new(rt.alloc());
+    assert_eq!(rt; bad_in_request(rt.alloc(), &args)?, Some(Arg::Id));
+    Ok(())
+}
+
+#[test]
+fn identifier_alone(rt: HostRuntime) -> Result<(), Fail> {
     let alloc = rt.alloc();
     let mut args = Seq::new(alloc);
-    let nameless = Err(ArgFault::Bad {
-        arg: Arg::Id,
-        id: None,
-    });
-    assert!(rt; request_of(alloc, &args) == nameless);
     add(alloc, &mut args, b"id", text(alloc, b"a1")?)?;
-    let no_method = Err(ArgFault::Bad {
-        arg: Arg::Method,
-        id: Some(Bytes::copy(alloc, b"a1")?),
-    });
-    assert!(rt; request_of(alloc, &args) == no_method);
-    let no_status = Err(ArgFault::Bad {
-        arg: Arg::Status,
-        id: Some(Bytes::copy(alloc, b"a1")?),
-    });
-    assert!(rt; response_of(alloc, &args) == no_status);
+    assert_eq!(rt; bad_in_request(alloc, &args)?, Some(Arg::Method));
+    assert_eq!(rt; bad_in_response(alloc, &args)?, Some(Arg::Status));
     Ok(())
 }
 
@@ -199,8 +208,8 @@ fn lengths_of_names(rt: HostRuntime) -> Result<(), Fail> {
         (b"app", 256, None),
         (b"app", 257, Some(Arg::App)),
     ] {
-        assert_eq!(rt; bad_in_request(alloc, name, letters(alloc, count)?)?, bad);
-        assert_eq!(rt; bad_in_response(alloc, name, letters(alloc, count)?)?, bad);
+        assert_eq!(rt; request_with(alloc, name, letters(alloc, count)?)?, bad);
+        assert_eq!(rt; response_with(alloc, name, letters(alloc, count)?)?, bad);
     }
     Ok(())
 }
@@ -212,33 +221,27 @@ fn first_of_two_that_are_bad(rt: HostRuntime) -> Result<(), Fail> {
     let mut args = wanted(alloc)?;
     add(alloc, &mut args, b"body", Data::Bool(true))?;
     add(alloc, &mut args, b"dst-ip", Data::Bool(true))?;
-    let bad = Err(ArgFault::Bad {
-        arg: Arg::DstIp,
-        id: Some(Bytes::copy(alloc, b"a1")?),
-    });
-    assert!(rt; request_of(alloc, &args) == bad);
+    assert_eq!(rt; bad_in_request(alloc, &args)?, Some(Arg::DstIp));
     Ok(())
 }
 
-#[test]
-fn later_of_two_wins(rt: HostRuntime) -> Result<(), Fail> {
-    let alloc = rt.alloc();
+// An identifier and a status, behind others of their names.
+fn twice(alloc: Global) -> Result<Seq<Pair>, NoMemory> {
     let mut args = Seq::new(alloc);
     add(alloc, &mut args, b"id", Data::Bool(true))?;
     add(alloc, &mut args, b"status", Data::Uint32(200))?;
     add(alloc, &mut args, b"status", Data::Uint32(500))?;
     add(alloc, &mut args, b"id", text(alloc, b"a2")?)?;
-    let told = Told {
-        app: Bytes::new(alloc),
-        id: Bytes::copy(alloc, b"a2")?,
-        response: Response {
-            version: Bytes::new(alloc),
-            status: 500,
-            headers: Bytes::new(alloc),
-            body: Bytes::new(alloc),
-        },
-    };
-    assert!(rt; response_of(alloc, &args) == Ok(told));
+    Ok(args)
+}
+
+#[test]
+fn later_of_two_wins(rt: HostRuntime) -> Result<(), Fail> {
+    let args = twice(rt.alloc())?;
+    let told = response_of(rt.alloc(), &args);
+    assert!(rt;
+        matches!(&told, Ok(told) if told.id.as_slice() == b"a2".as_slice() && told.response.status == 500)
+    );
     Ok(())
 }
 
@@ -253,53 +256,75 @@ fn shared(alloc: Global) -> Result<Seq<Pair>, NoMemory> {
     Ok(args)
 }
 
+fn is_shared(response: &Response) -> bool {
+    response.version.as_slice() == b"1.1".as_slice()
+        && response.status == 200
+        && response.headers.as_slice() == b"host: d\r\n".as_slice()
+        && response.body.as_slice() == b"\xff".as_slice()
+}
+
 #[test]
 fn whole_response(rt: HostRuntime) -> Result<(), Fail> {
-    let alloc = rt.alloc();
-    let told = Told {
-        app: Bytes::copy(alloc, b"shop")?,
-        id: Bytes::copy(alloc, b"a1")?,
-        response: Response {
-            version: Bytes::copy(alloc, b"1.1")?,
-            status: 200,
-            headers: Bytes::copy(alloc, b"host: d\r\n")?,
-            body: Bytes::copy(alloc, b"\xff")?,
-        },
-    };
-    let args = shared(alloc)?;
-    assert!(rt; response_of(alloc, &args) == Ok(told));
+    let args = shared(rt.alloc())?;
+    let told = response_of(rt.alloc(), &args);
+    assert!(rt;
+        matches!(&told, Ok(told) if told.app.as_slice() == b"shop".as_slice() && is_shared(&told.response))
+    );
     Ok(())
 }
 
-fn whole_arguments(alloc: Global) -> Result<Seq<Pair>, NoMemory> {
+fn addressed(alloc: Global) -> Result<Seq<Pair>, NoMemory> {
     let mut args = shared(alloc)?;
     add(alloc, &mut args, b"src-ip", Data::Ipv4([192, 0, 2, 1]))?;
     add(alloc, &mut args, b"dst-ip", Data::Ipv6([1; 16]))?;
     add(alloc, &mut args, b"src-port", Data::Int64(49152))?;
     add(alloc, &mut args, b"dst-port", Data::Uint32(443))?;
+    Ok(args)
+}
+
+fn is_addressed(request: &Request) -> bool {
+    request.src == Address::V4([192, 0, 2, 1])
+        && request.src_port == Some(49152)
+        && request.dst == Address::V6([1; 16])
+        && request.dst_port == Some(443)
+}
+
+#[test]
+fn addresses_and_ports(rt: HostRuntime) -> Result<(), Fail> {
+    let args = addressed(rt.alloc())?;
+    let asked = request_of(rt.alloc(), &args);
+    assert!(rt; matches!(&asked, Ok(asked) if is_addressed(&asked.request)));
+    Ok(())
+}
+
+fn located(alloc: Global) -> Result<Seq<Pair>, NoMemory> {
+    let mut args = shared(alloc)?;
     add(alloc, &mut args, b"path", text(alloc, b"/a")?)?;
     add(alloc, &mut args, b"query", text(alloc, b"b=c")?)?;
     Ok(args)
 }
 
+fn is_located(request: &Request) -> bool {
+    request.id.as_slice() == b"a1".as_slice()
+        && request.method.as_slice() == b"GET".as_slice()
+        && request.path.as_slice() == b"/a".as_slice()
+        && request.query.as_slice() == b"b=c".as_slice()
+        && request.version.as_slice() == b"1.1".as_slice()
+}
+
+fn has_content(request: &Request) -> bool {
+    request.headers.as_slice() == b"host: d\r\n".as_slice()
+        && request.body.as_slice() == b"\xff".as_slice()
+        && request.src == Address::None
+        && request.dst_port == None
+}
+
 #[test]
-fn whole_request(rt: HostRuntime) -> Result<(), Fail> {
-    let alloc = rt.alloc();
-    let request = Request {
-        id: Bytes::copy(alloc, b"a1")?,
-        src: Address::V4([192, 0, 2, 1]),
-        src_port: Some(49152),
-        dst: Address::V6([1; 16]),
-        dst_port: Some(443),
-        method: Bytes::copy(alloc, b"GET")?,
-        path: Bytes::copy(alloc, b"/a")?,
-        query: Bytes::copy(alloc, b"b=c")?,
-        version: Bytes::copy(alloc, b"1.1")?,
-        headers: Bytes::copy(alloc, b"host: d\r\n")?,
-        body: Bytes::copy(alloc, b"\xff")?,
-    };
-    let app = Bytes::copy(alloc, b"shop")?;
-    let args = whole_arguments(alloc)?;
-    assert!(rt; request_of(alloc, &args) == Ok(Asked { app, request }));
+fn texts_of_a_request(rt: HostRuntime) -> Result<(), Fail> {
+    let args = located(rt.alloc())?;
+    let asked = request_of(rt.alloc(), &args);
+    assert!(rt;
+        matches!(&asked, Ok(asked) if is_located(&asked.request) && has_content(&asked.request))
+    );
     Ok(())
 }
