@@ -240,7 +240,7 @@ fn later_of_two_wins(rt: HostRuntime) -> Result<(), Fail> {
     let args = twice(rt.alloc())?;
     let told = response_of(rt.alloc(), &args);
     assert!(rt;
-        matches!(told, Ok(told) if told.id.as_slice() == b"a2".as_slice() && told.response.status == 500)
+        matches!(&told, Ok(told) if told.id.as_slice() == b"a2".as_slice() && told.response.status == 500)
     );
     Ok(())
 }
@@ -268,7 +268,7 @@ fn whole_response(rt: HostRuntime) -> Result<(), Fail> {
     let args = shared(rt.alloc())?;
     let told = response_of(rt.alloc(), &args);
     assert!(rt;
-        matches!(told, Ok(told) if told.app.as_slice() == b"shop".as_slice() && is_shared(&told.response))
+        matches!(&told, Ok(told) if told.app.as_slice() == b"shop".as_slice() && is_shared(&told.response))
     );
     Ok(())
 }
@@ -293,7 +293,7 @@ fn is_addressed(request: &Request) -> bool {
 fn addresses_and_ports(rt: HostRuntime) -> Result<(), Fail> {
     let args = addressed(rt.alloc())?;
     let asked = request_of(rt.alloc(), &args);
-    assert!(rt; matches!(asked, Ok(asked) if is_addressed(&asked.request)));
+    assert!(rt; matches!(&asked, Ok(asked) if is_addressed(&asked.request)));
     Ok(())
 }
 
@@ -324,7 +324,7 @@ fn texts_of_a_request(rt: HostRuntime) -> Result<(), Fail> {
     let args = located(rt.alloc())?;
     let asked = request_of(rt.alloc(), &args);
     assert!(rt;
-        matches!(asked, Ok(asked) if is_located(&asked.request) && has_content(&asked.request))
+        matches!(&asked, Ok(asked) if is_located(&asked.request) && has_content(&asked.request))
     );
     Ok(())
 }
