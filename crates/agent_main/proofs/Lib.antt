@@ -1,3 +1,4 @@
+mod Checks
 mod Moving
-mod Standing
 mod Serving
+mod Standing

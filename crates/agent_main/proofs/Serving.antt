@@ -147,18 +147,21 @@ module _ (rule : DeniedMethod) (d : Talk) (t : Point) (input rest : List ℕ) (h
   broken e =
       let b = closes.broke e in
       let is_13 : how ≡ closings.Ended 13 = broken_is_13 _ t.replies t.past how b in
-      inr (is_13, record {
-        taken = t.input;
-        rest = rest;
-        input_is = input_is;
-        ended = t.ended;
-        past = t.past;
-        broken =
-            subst (λ (c : closing.Closing). IsBroken (trace 16380 t.input t.ended (replies_to rule t.past)) (replies_to rule t.past) (t.past ++ Close c ∷ [])) is_13
-            (subst (λ (l : List Reply). IsBroken (trace 16380 t.input t.ended l) l (t.past ++ Close how ∷ [])) runs.replies_are
-            (subst (λ (n : ℕ). IsBroken (trace n t.input t.ended t.replies) t.replies (t.past ++ Close how ∷ [])) size b));
-        added = runs.added;
-      })
+      inr (
+        is_13,
+        record {
+          taken = t.input;
+          rest = rest;
+          input_is = input_is;
+          ended = t.ended;
+          past = t.past;
+          broken =
+              subst (λ (c : closing.Closing). IsBroken (trace 16380 t.input t.ended (replies_to rule t.past)) (replies_to rule t.past) (t.past ++ Close c ∷ [])) is_13
+              (subst (λ (l : List Reply). IsBroken (trace 16380 t.input t.ended l) l (t.past ++ Close how ∷ [])) runs.replies_are
+              (subst (λ (n : ℕ). IsBroken (trace n t.input t.ended t.replies) t.replies (t.past ++ Close how ∷ [])) size b));
+          added = runs.added;
+        },
+      )
 
   on_piece : (b : Bool) → d.broken ≡ b → t.ended ≡ false → Ends (ends.Closed how) rule 16380 input old now
   on_piece false e goes = whole e (closes.whatever e goes rest true)
@@ -187,8 +190,8 @@ fails_in rule s input rest old now size input_is f = record {
   back = f.back;
   left = f.left;
   needs = subst (λ (n : ℕ).
-  (trace n s.input s.ended (replies_to rule f.past) ≡ f.past ++ Write (f.front ++ f.back) ∷ f.left)
-  ⊎ IsBroken (trace n s.input s.ended (replies_to rule f.past)) (replies_to rule f.past) (f.past ++ Write (f.front ++ f.back) ∷ f.left)) size f.needs;
+      (trace n s.input s.ended (replies_to rule f.past) ≡ f.past ++ Write (f.front ++ f.back) ∷ f.left)
+      ⊎ IsBroken (trace n s.input s.ended (replies_to rule f.past)) (replies_to rule f.past) (f.past ++ Write (f.front ++ f.back) ∷ f.left)) size f.needs;
   added = f.added;
 }
 

@@ -90,8 +90,8 @@ fails rule c s old before now front back r w is adds =
       back = back;
       left = parts.0;
       needs = subst (λ (l : List Reply).
-      (trace s.size s.input s.ended l ≡ s.past ++ Write (front ++ back) ∷ parts.0)
-      ⊎ IsBroken (trace s.size s.input s.ended l) l (s.past ++ Write (front ++ back) ∷ parts.0)) r.replies_are parts.1;
+          (trace s.size s.input s.ended l ≡ s.past ++ Write (front ++ back) ∷ parts.0)
+          ⊎ IsBroken (trace s.size s.input s.ended l) l (s.past ++ Write (front ++ back) ∷ parts.0)) r.replies_are parts.1;
       added = adds_both old before now (writes s.past) front r.added adds;
     }
 

@@ -40,12 +40,7 @@ pub fn once<F: Files, S: Source, K: Sink>(
 }
 
 // Serves the input by a listing that has the one rule.
-fn under<S: Source, K: Sink>(
-    alloc: Global,
-    listing: &Listing,
-    input: &mut S,
-    output: &mut K,
-) -> u8
+fn under<S: Source, K: Sink>(alloc: Global, listing: &Listing, input: &mut S, output: &mut K) -> u8
     ensures other { result ≢ 2 }
     ensures refused { rule_of listing.now ≡ None → Prints result 3 (codes "not built yet\n") (K.held output.old) (K.held output.new) }
     ensures served { IfSome (S.left input.old) (λ bytes. (rule : DeniedMethod) → rule_of listing.now ≡ Some rule

@@ -4,9 +4,7 @@ ghost use Rattle.std.specs.Option.{option_map};
 ghost use Rattle.agent_main.specs.Rule.{alone, asks_the_method, compared, denied, denies, has_plain_settings, is_bare, is_method, is_upper, method_in, method_of, rule_of};
 ghost use Rattle.agent_main.specs.RuleSeen.{rule_seen};
 
-use sec_ast::{
-    Disrupt, Engine, Item, Link, Listing, Op, OpKind, Part, Rule, Select, Target, Var,
-};
+use sec_ast::{Disrupt, Engine, Item, Link, Listing, Op, OpKind, Part, Rule, Select, Target, Var};
 
 // The rule that denies requests of a method.
 #[derive(Clone, Copy)]

@@ -439,16 +439,28 @@ fn other_words(rt: HostRuntime) -> Result<(), Fail> {
     let mut files = MemFiles::new(one_file(alloc, RULES)?, calls(alloc, &[0])?);
     let mut input = source(alloc, HELLO, &[])?;
     assert_eq!(rt;
-        offline_main(alloc, words(alloc, b"once", b"")?, &mut files, &mut input, &mut sink),
+        offline_main(
+            alloc,
+            words(alloc, b"once", b"")?,
+            &mut files,
+            &mut input,
+            &mut sink
+        ),
         2
     );
-    assert_eq!(rt; sink.bytes(), b"usage: yefontsila check CONF | once RULES\n".as_slice());
+    assert_eq!(rt;
+        sink.bytes(),
+        b"usage: yefontsila check CONF | once RULES\n".as_slice()
+    );
     assert_eq!(rt;
         offline_main(alloc, once(alloc)?, &mut files, &mut input, &mut sink),
         4
     );
     let (status, written) = checked(alloc, &[])?;
-    assert_eq!(rt; (status, written.as_slice()), (3, b"etc/agent.toml: NoFile\n".as_slice()));
+    assert_eq!(rt;
+        (status, written.as_slice()),
+        (3, b"etc/agent.toml: NoFile\n".as_slice())
+    );
     Ok(())
 }
 
@@ -477,7 +489,8 @@ fn checked(alloc: Global, files: &[(&[u8], &[u8])]) -> Result<(u8, Bytes), NoMem
 const TWO_APPS: &[u8] =
     b"[[app]]\nname = \"site\"\nrules = [\"a.conf\", \"/b.conf\"]\n[[app]]\nname = \"\"\nrules = []\n";
 
-const LISTINGS: &[u8] = b"app site\nSecRuleEngine \"On\"\nSecRequestBodyAccess \"On\"\nSecRequestBodyLimit \"131072\"\nSecRequestBodyLimitAction \"Reject\"\nSecResponseBodyAccess \"Off\"\nSecRule \"REQUEST_METHOD\" \"@streq POST\" \"id:100,phase:1,deny,log\"\nSecMarker \"END\"\napp \nSecRuleEngine \"On\"\nSecRequestBodyAccess \"On\"\nSecRequestBodyLimit \"131072\"\nSecRequestBodyLimitAction \"Reject\"\nSecResponseBodyAccess \"Off\"\n";
+const LISTINGS: &[u8] =
+    b"app site\nSecRuleEngine \"On\"\nSecRequestBodyAccess \"On\"\nSecRequestBodyLimit \"131072\"\nSecRequestBodyLimitAction \"Reject\"\nSecResponseBodyAccess \"Off\"\nSecRule \"REQUEST_METHOD\" \"@streq POST\" \"id:100,phase:1,deny,log\"\nSecMarker \"END\"\napp \nSecRuleEngine \"On\"\nSecRequestBodyAccess \"On\"\nSecRequestBodyLimit \"131072\"\nSecRequestBodyLimitAction \"Reject\"\nSecResponseBodyAccess \"Off\"\n";
 
 #[test]
 fn a_check_of_two_applications(rt: HostRuntime) -> Result<(), Fail> {
@@ -498,10 +511,28 @@ fn a_check_of_two_applications(rt: HostRuntime) -> Result<(), Fail> {
 fn a_check_that_is_refused(rt: HostRuntime) -> Result<(), Fail> {
     let alloc = rt.alloc();
     let (status, written) = checked(alloc, &[(b"etc/agent.toml", b"sise = 1\n")])?;
-    assert_eq!(rt; (status, written.as_slice()), (3, b"etc/agent.toml: UnknownKey sise\n".as_slice()));
-    let (status, written) = checked(alloc, &[(b"etc/agent.toml", TWO_APPS), (b"etc/a.conf", b"\nSecFoo On\n")])?;
-    assert_eq!(rt; (status, written.as_slice()), (3, b"etc/a.conf:2: UnknownDirective SecFoo\n".as_slice()));
-    let (status, written) = checked(alloc, &[(b"etc/agent.toml", TWO_APPS), (b"etc/a.conf", RULES)])?;
-    assert_eq!(rt; (status, written.as_slice()), (3, b"/b.conf: NoFile\n".as_slice()));
+    assert_eq!(rt;
+        (status, written.as_slice()),
+        (3, b"etc/agent.toml: UnknownKey sise\n".as_slice())
+    );
+    let (status, written) = checked(
+        alloc,
+        &[
+            (b"etc/agent.toml", TWO_APPS),
+            (b"etc/a.conf", b"\nSecFoo On\n"),
+        ],
+    )?;
+    assert_eq!(rt;
+        (status, written.as_slice()),
+        (3, b"etc/a.conf:2: UnknownDirective SecFoo\n".as_slice())
+    );
+    let (status, written) = checked(
+        alloc,
+        &[(b"etc/agent.toml", TWO_APPS), (b"etc/a.conf", RULES)],
+    )?;
+    assert_eq!(rt;
+        (status, written.as_slice()),
+        (3, b"/b.conf: NoFile\n".as_slice())
+    );
     Ok(())
 }
