@@ -1,9 +1,9 @@
 -- The texts of applications, one behind another.
-use Rattle.std.proofs.Common.{◌≡◌, ◌≤◌, ℕ, suc, List, [], ◌∷◌, ◌++◌, drop, Option, Some, None, Result, Ok, Err, refl, sym, ◌∙◌, ap, append_assoc}
+use Rattle.std.proofs.Common.{◌≡◌, ℕ, List, ◌++◌, Option, Result, Ok, Err}
 use Rattle.std.specs.Option.{IfSome}
 use Rattle.sec_read.specs.FileWords.{Named}
 use Rattle.agent_conf.specs.declared.conf.AppConf.{AppConf}
-use Rattle.agent_main.specs.Check.{app_in, apps_in}
+use Rattle.agent_main.specs.Check.{apps_in}
 
 abbrev pub behind : List ℕ → Result (List ℕ) (List ℕ) → Result (List ℕ) (List ℕ)
 behind text (Ok more) = Ok (text ++ more)

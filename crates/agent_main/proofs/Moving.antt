@@ -1,27 +1,21 @@
 -- From one state of a connection to the next.
-use Rattle.std.proofs.Common.{◌≡◌, ◌⊎◌, inl, inr, ℕ, Bool, true, false, cond, List, [], ◌∷◌, ◌++◌, Option, Some, None, refl, sym, ◌∙◌, ap, subst, append_assoc}
+use Rattle.std.proofs.Common.{◌≡◌, ◌⊎◌, ℕ, Bool, List, [], ◌∷◌, ◌++◌, Option, refl, sym, ◌∙◌, ap, subst}
 use Rattle.std.proofs.lemmas.List.{append-nil}
 use Rattle.std.proofs.lemmas.Grind.{flat_map-append}
 use Rattle.waf_io.specs.Sink.{Adds}
 use Rattle.waf_io.proofs.Adds.{adds_both, adds_none}
-use Rattle.spop_hello.specs.Frames.{disconnect}
 use Rattle.conn_core.specs.declared.answer.BegunAnswer as answers
 use Rattle.conn_core.specs.declared.answer.BegunAnswer.TheVariants as beguns
-use Rattle.conn_core.specs.declared.need.Closing as closing
-use Rattle.conn_core.specs.declared.stage.Stage as stages
-use Rattle.conn_core.specs.declared.stage.Stage.TheVariants as at
-use Rattle.conn_core.specs.Calls.{IsBytes, IsClose, IsWrite, begun_with, closing_of, out_of}
-use Rattle.conn_core.specs.Stands.{Broken, Closes, Going, IsBroken, Plain, Stands, StandsAs, WaitsForBytes, fed, is_open, listens, replied, served, shut}
+use Rattle.conn_core.specs.Calls.{begun_with}
+use Rattle.conn_core.specs.Stands.{IsBroken, Stands, replied, served}
 use Rattle.conn_core.specs.Trace.{Write, trace}
 use Rattle.agent_main.specs.declared.judge.Passes.{Passes}
-use Rattle.agent_main.specs.declared.judge.TheRule.{TheRule}
-use Rattle.agent_main.specs.declared.judge.Ticket.{Ticket}
 use Rattle.agent_main.specs.declared.serve.Turn as turn
 use Rattle.agent_main.specs.declared.serve.Turn.TheVariants as turns
 use Rattle.agent_main.specs.Connection.{bytes_of, writes}
 use Rattle.agent_main.specs.Judge.{Need, Reply, Tells, reply_to, replies_to}
 use Rattle.agent_main.specs.Rule.{DeniedMethod}
-use Rattle.agent_main.specs.Steps.{Acts, Fails, Point, Runs, Same, Stepped, Talk, Turns}
+use Rattle.agent_main.specs.Steps.{Acts, Fails, Point, Runs, Same, Talk, Turns}
 
 -- the state after a need, and replies to it
 abbrev after : Point → Need → List Reply → Point

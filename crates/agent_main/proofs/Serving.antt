@@ -1,23 +1,21 @@
 -- Serving a connection piece by piece.
-use Rattle.std.proofs.Common.{◌≡◌, ◌⊎◌, inl, inr, ℕ, zero, suc, ◌+◌, ◌<◌, ◌≤◌, Bool, true, false, List, [], ◌∷◌, ◌++◌, length, take, drop, map, Option, Some, None, refl, sym, ◌∙◌, ap, subst, arith, append_assoc, length-drop}
+use Rattle.std.proofs.Common.{◌≡◌, ◌⊎◌, inl, inr, ℕ, ◌+◌, ◌≤◌, Bool, true, false, List, [], ◌∷◌, ◌++◌, length, take, drop, map, Option, Some, None, refl, sym, ◌∙◌, ap, subst, arith, append_assoc}
 use Rattle.std.proofs.lemmas.List.{append-nil, length-append, take-append-drop}
 use Rattle.std.proofs.Math.Seq.{take-append_seam}
 use Rattle.std.specs.Option.{IfSome}
-use Rattle.waf_io.specs.Sink.{Adds}
 use Rattle.waf_io.specs.Source.{HandsOver}
 use Rattle.waf_io.proofs.Adds.{adds_none}
 use Rattle.spop_hello.specs.Frames.{disconnect}
 use Rattle.conn_core.specs.declared.need.Closing as closing
 use Rattle.conn_core.specs.declared.need.Closing.TheVariants as closings
 use Rattle.conn_core.specs.Stands.{Closes, IsBroken, Stands, WaitsForBytes, fed, listens, opening, shut, spent_in, tickets_in}
-use Rattle.conn_core.specs.Trace.{Bytes, Leave, Write, Close, trace}
-use Rattle.agent_main.specs.declared.judge.Ticket.{Ticket}
+use Rattle.conn_core.specs.Trace.{Leave, Write, Close, trace}
 use Rattle.agent_main.specs.declared.serve.End as end
 use Rattle.agent_main.specs.declared.serve.End.TheVariants as ends
-use Rattle.agent_main.specs.Connection.{Broken, Closed, Ends, Spent, Unread, Unwritten, writes}
+use Rattle.agent_main.specs.Connection.{Ends, Spent, Unread, Unwritten}
 use Rattle.agent_main.specs.Judge.{Need, Reply, replies_to}
 use Rattle.agent_main.specs.Rule.{DeniedMethod}
-use Rattle.agent_main.specs.Steps.{EndsHere, Fails, Heard, Hears, Point, Runs, Same, Talk}
+use Rattle.agent_main.specs.Steps.{EndsHere, Fails, Heard, Hears, Point, Runs, Talk}
 use Rattle.agent_main.proofs.Standing.{fed_is, shut_is}
 
 -- ---- a broken trace closes with status 13

@@ -1,13 +1,12 @@
 -- What a connection stands for at a write, at its close, and while it listens.
-use Rattle.std.proofs.Common.{◌≡◌, ◌⊎◌, inl, inr, ℕ, Bool, true, false, cond, List, [], ◌∷◌, ◌++◌, Option, Some, None, refl, sym, ◌∙◌, ap, subst, append_assoc}
+use Rattle.std.proofs.Common.{◌≡◌, ◌⊎◌, inl, inr, ℕ, Bool, true, false, cond, List, [], ◌∷◌, ◌++◌, Option, Some, None, refl, sym, ◌∙◌, ap, subst}
 use Rattle.std.proofs.lemmas.List.{append-nil}
 use Rattle.waf_io.specs.Sink.{Adds}
 use Rattle.waf_io.proofs.Adds.{adds_both}
-use Rattle.spop_hello.specs.Frames.{disconnect}
 use Rattle.conn_core.specs.declared.stage.Stage as stages
 use Rattle.conn_core.specs.declared.stage.Stage.TheVariants as at
 use Rattle.conn_core.specs.Calls.{IsBytes, IsWrite, out_of}
-use Rattle.conn_core.specs.Stands.{Broken, Going, IsBroken, Plain, Stands, StandsAs, WaitsForBytes, fed, is_open, listens, shut}
+use Rattle.conn_core.specs.Stands.{Broken, Going, IsBroken, Stands, StandsAs, WaitsForBytes, fed, is_open, listens, shut}
 use Rattle.conn_core.specs.Trace.{Write, trace}
 use Rattle.agent_main.specs.declared.judge.Passes.{Passes}
 use Rattle.agent_main.specs.declared.judge.TheRule.{TheRule}

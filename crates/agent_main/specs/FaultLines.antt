@@ -1,5 +1,5 @@
 -- The line that is printed for a fault.
-use Rattle.std.specs.Prelude.{ℕ, ◌==◌, List, [], ◌∷◌, ◌++◌, length, codes, decimal, if◌then◌else◌}
+use Rattle.std.specs.Prelude.{ℕ, ◌==◌, List, [], ◌++◌, length, codes, decimal, if◌then◌else◌}
 use Rattle.sec_read.specs.declared.faults.Fault.{Fault}
 use Rattle.sec_read.specs.Faults.{kind_name}
 

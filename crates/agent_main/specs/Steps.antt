@@ -1,5 +1,5 @@
 -- What a step of serving does to the state that a connection stands for.
-use Rattle.std.specs.Prelude.{◌≡◌, ◌⊎◌, ℕ, Bool, true, List, ◌∷◌, ◌++◌, Option, Some, None}
+use Rattle.std.specs.Prelude.{◌≡◌, ℕ, true, List, ◌∷◌, ◌++◌, Option, Some, None}
 use Rattle.waf_io.specs.Sink.{Adds}
 use Rattle.conn_core.specs.declared.need.Closing as closing
 use Rattle.conn_core.specs.Stands.{Held, State, Stands, Closes, WaitsForBytes, fed, listens, shut}

@@ -431,7 +431,7 @@ fn words(alloc: Global, command: &[u8], name: &[u8]) -> Result<Seq<Bytes>, NoMem
     Ok(words)
 }
 
-// Words that no command takes, a file that can't be read, and one that is absent.
+// Words that no command takes, and a file that can't be read.
 #[test]
 fn other_words(rt: HostRuntime) -> Result<(), Fail> {
     let alloc = rt.alloc();
@@ -455,11 +455,6 @@ fn other_words(rt: HostRuntime) -> Result<(), Fail> {
     assert_eq!(rt;
         offline_main(alloc, once(alloc)?, &mut files, &mut input, &mut sink),
         4
-    );
-    let (status, written) = checked(alloc, &[])?;
-    assert_eq!(rt;
-        (status, written.as_slice()),
-        (3, b"etc/agent.toml: NoFile\n".as_slice())
     );
     Ok(())
 }
@@ -492,47 +487,44 @@ const TWO_APPS: &[u8] =
 const LISTINGS: &[u8] =
     b"app site\nSecRuleEngine \"On\"\nSecRequestBodyAccess \"On\"\nSecRequestBodyLimit \"131072\"\nSecRequestBodyLimitAction \"Reject\"\nSecResponseBodyAccess \"Off\"\nSecRule \"REQUEST_METHOD\" \"@streq POST\" \"id:100,phase:1,deny,log\"\nSecMarker \"END\"\napp \nSecRuleEngine \"On\"\nSecRequestBodyAccess \"On\"\nSecRequestBodyLimit \"131072\"\nSecRequestBodyLimitAction \"Reject\"\nSecResponseBodyAccess \"Off\"\n";
 
+const BOTH_FILES: &[(&[u8], &[u8])] = &[
+    (b"etc/agent.toml", TWO_APPS),
+    (b"etc/a.conf", RULES),
+    (b"/b.conf", b"SecMarker END"),
+];
+
 #[test]
 fn a_check_of_two_applications(rt: HostRuntime) -> Result<(), Fail> {
-    let alloc = rt.alloc();
-    let (status, written) = checked(
-        alloc,
-        &[
-            (b"etc/agent.toml", TWO_APPS),
-            (b"etc/a.conf", RULES),
-            (b"/b.conf", b"SecMarker END"),
-        ],
-    )?;
+    let (status, written) = checked(rt.alloc(), BOTH_FILES)?;
     assert_eq!(rt; (status, written.as_slice()), (0, LISTINGS));
     Ok(())
 }
 
-#[test]
-fn a_check_that_is_refused(rt: HostRuntime) -> Result<(), Fail> {
-    let alloc = rt.alloc();
-    let (status, written) = checked(alloc, &[(b"etc/agent.toml", b"sise = 1\n")])?;
-    assert_eq!(rt;
-        (status, written.as_slice()),
-        (3, b"etc/agent.toml: UnknownKey sise\n".as_slice())
-    );
-    let (status, written) = checked(
-        alloc,
+// Files of a configuration, and the line of its first fault.
+const REFUSED: &[(&[(&[u8], &[u8])], &[u8])] = &[
+    (&[], b"etc/agent.toml: NoFile\n"),
+    (
+        &[(b"etc/agent.toml", b"sise = 1\n")],
+        b"etc/agent.toml: UnknownKey sise\n",
+    ),
+    (
         &[
             (b"etc/agent.toml", TWO_APPS),
             (b"etc/a.conf", b"\nSecFoo On\n"),
         ],
-    )?;
-    assert_eq!(rt;
-        (status, written.as_slice()),
-        (3, b"etc/a.conf:2: UnknownDirective SecFoo\n".as_slice())
-    );
-    let (status, written) = checked(
-        alloc,
+        b"etc/a.conf:2: UnknownDirective SecFoo\n",
+    ),
+    (
         &[(b"etc/agent.toml", TWO_APPS), (b"etc/a.conf", RULES)],
-    )?;
-    assert_eq!(rt;
-        (status, written.as_slice()),
-        (3, b"/b.conf: NoFile\n".as_slice())
-    );
+        b"/b.conf: NoFile\n",
+    ),
+];
+
+#[test]
+fn checks_that_are_refused(rt: HostRuntime) -> Result<(), Fail> {
+    for (files, line) in REFUSED {
+        let (status, written) = checked(rt.alloc(), *files)?;
+        assert_eq!(rt; (status, written.as_slice()), (3, *line));
+    }
     Ok(())
 }

@@ -1,5 +1,5 @@
 -- More frames allowed change nothing of what was decided.
-use Rattle.std.proofs.Common.{◌≡◌, ℕ, zero, suc, ◌+◌, ◌<◌, Bool, Option, List, ◌++◌, length, refl, arith}
+use Rattle.std.proofs.Common.{◌≡◌, ℕ, zero, suc, ◌<◌, Bool, Option, List, ◌++◌, length, refl, arith}
 use Rattle.spop_frame.specs.Head.{Head, NotYet, Bad, Whole, head_of}
 use Rattle.spop_frame.specs.declared.frame.Frame.{Frame}
 use Rattle.conn_core.specs.Trace.{Need, Reply, at_head, any_frame, frames, onward, limit_of}

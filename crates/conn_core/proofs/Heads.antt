@@ -4,7 +4,7 @@ use Rattle.std.proofs.lemmas.Bool.{lt-ltb, le-ltb, cases_lt}
 use Rattle.std.proofs.lemmas.List.{take-append-le, drop-append-le}
 use Rattle.std.specs.Prelude.{if◌then◌else◌}
 use Rattle.std.specs.Int.{from_be_bytes, w32}
-use Rattle.spop_varint.specs.Reading.{◌>>=◌, split_number, split_by, number_at}
+use Rattle.spop_varint.specs.Reading.{split_number, split_by, number_at}
 use Rattle.spop_varint.specs.declared.read.Varint as answers
 use Rattle.spop_varint.specs.declared.read.Varint.TheVariants.{Read, Short, TooLarge}
 use Rattle.spop_data.proofs.Steps.{bind_some, some_is}

@@ -1,9 +1,9 @@
 -- What the machine does between two needs.
-use Rattle.std.proofs.Common.{◌≡◌, ℕ, ◌+◌, ◌<◌, ◌≤◌, Bool, true, false, cond, not, ◌||◌, nat_lt, eqb, Option, Some, None, Result, Ok, Err, List, [], ◌∷◌, ◌++◌, length, drop, map, codes, bytes_eq, refl, sym, ◌∙◌, ap, subst, append_assoc, append-nil, arith}
+use Rattle.std.proofs.Common.{◌≡◌, ℕ, ◌<◌, ◌≤◌, Bool, true, false, cond, not, ◌||◌, Option, Some, None, Ok, Err, List, [], ◌∷◌, ◌++◌, length, drop, map, codes, bytes_eq, refl, sym, ◌∙◌, ap, subst, append_assoc, append-nil, arith}
 use Rattle.std.proofs.lemmas.List.{drop_at}
 use Rattle.std.specs.Option.{IsSomeAnd}
 use Rattle.std.proofs.lemmas.Bool.{ne_eqb, lt-ltb, le-ltb}
-use Rattle.spop_frame.specs.Head.{Head, NotYet, Bad, Whole, head_of}
+use Rattle.spop_frame.specs.Head.{NotYet, Bad, Whole, head_of}
 use Rattle.spop_frame.specs.declared.frame.Frame.{Frame}
 use Rattle.spop_hello.specs.Frames.{agent_hello, disconnect}
 use Rattle.spop_hello.specs.Terms.{terms_of}
@@ -25,9 +25,9 @@ use Rattle.conn_core.specs.declared.outcome.Outcome.TheVariants as outcomes
 use Rattle.conn_core.specs.declared.stage.Stage.{Stage}
 use Rattle.conn_core.specs.declared.stage.Stage.TheVariants as at
 use Rattle.conn_core.specs.Outcome.{actions_of}
-use Rattle.conn_core.specs.Trace.{Need, Bytes, Look, Enter, Begin, Park, Leave, Resume, Finish, Retire, Write, Close, Reply, refuse, any_frame, notify, messages, answer, at_end, onward, limit_of, is_misplaced, trace}
-use Rattle.conn_core.specs.Stands.{State, Held, served, replied, left_of, left_with, hears, is_open, Going, tickets_in, spent_in, held_at, Plain, Broken, IsEnding, StandsAs, Stands, Waits, IsBroken, ending, Closes}
-use Rattle.conn_core.proofs.Steps.{stays, plain_of, stands, at_stage}
+use Rattle.conn_core.specs.Trace.{Need, Leave, Write, Close, Reply, refuse, any_frame, notify, at_end, limit_of, is_misplaced, trace}
+use Rattle.conn_core.specs.Stands.{State, Held, left_of, left_with, hears, is_open, Going, tickets_in, spent_in, held_at, Plain, Broken, IsEnding, StandsAs, Stands, Waits, ending, Closes}
+use Rattle.conn_core.proofs.Steps.{stays, stands, at_stage}
 use Rattle.conn_core.proofs.Heads.{bad_more}
 use Rattle.conn_core.proofs.Fuel.{at_whole}
 

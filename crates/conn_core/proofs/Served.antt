@@ -1,5 +1,5 @@
 -- One lemma a call.
-use Rattle.std.proofs.Common.{◌≡◌, ℕ, Bool, true, false, cond, ◌||◌, Option, Some, None, List, [], ◌∷◌, ◌++◌, length, drop, map, refl, sym, ◌∙◌, ap, subst, append_assoc, append-nil, ◌≤◌, arith}
+use Rattle.std.proofs.Common.{◌≡◌, ℕ, Bool, true, false, Option, Some, None, List, [], ◌∷◌, ◌++◌, refl, sym, ◌∙◌, ap, subst, append_assoc, append-nil, ◌≤◌, arith}
 use Rattle.spop_hello.specs.Frames.{disconnect}
 use Rattle.spop_talk.specs.declared.ack.Action.{Action}
 use Rattle.spop_talk.specs.declared.message.Message.{Message}
@@ -14,8 +14,8 @@ use Rattle.conn_core.specs.declared.need.Closing.TheVariants as closings
 use Rattle.conn_core.specs.declared.stage.Hold.{Hold}
 use Rattle.conn_core.specs.declared.stage.Stage.{Stage}
 use Rattle.conn_core.specs.declared.stage.Stage.TheVariants as at
-use Rattle.conn_core.specs.Trace.{Need, Bytes, Look, Enter, Begin, Park, Leave, Resume, Finish, Retire, Write, Close, Reply, Found, UnknownApp, Entered, Refused, Interrupted, Goes, Resumed, NotParked, Ended, trace, failed, judged}
-use Rattle.conn_core.specs.Stands.{State, Held, opening, served, replied, left_of, hears, is_open, Going, tickets_in, spent_in, held_at, held_by, Plain, Broken, IsTaken, Taken, IsEnding, StandsAs, Stands, Waits, WaitsForBytes, IsBroken, ending, fed, shut, listens, rank}
+use Rattle.conn_core.specs.Trace.{Need, Look, Enter, Begin, Park, Leave, Resume, Finish, Retire, Write, Found, UnknownApp, Entered, Refused, Interrupted, Goes, Resumed, NotParked, Ended, trace, failed, judged}
+use Rattle.conn_core.specs.Stands.{State, Held, opening, served, replied, hears, is_open, held_at, held_by, Plain, Broken, IsTaken, Taken, IsEnding, StandsAs, Stands, Waits, WaitsForBytes, ending, fed, shut, rank}
 use Rattle.conn_core.specs.Calls.{after_write, At, kind_at}
 use Rattle.conn_core.proofs.Inner.{trace_now, broke, broke_fed, fed_on, shut_on, hears_open}
 use Rattle.conn_core.proofs.Steps.{serves, hears_of, both, stays, plain_of, stands, at_stage}

@@ -1,10 +1,8 @@
 -- What a step needs for the next state to be stood for.
-use Rattle.std.proofs.Common.{◌≡◌, ℕ, Bool, true, false, cond, ◌||◌, Option, Some, None, List, [], ◌∷◌, ◌++◌, length, drop, map, refl, sym, ◌∙◌, ap, subst, append_assoc, append-nil}
-use Rattle.conn_core.specs.declared.stage.Hold.{Hold}
+use Rattle.std.proofs.Common.{◌≡◌, ℕ, Bool, true, false, cond, ◌||◌, List, [], ◌∷◌, ◌++◌, refl, sym, ◌∙◌, ap, subst, append_assoc, append-nil}
 use Rattle.conn_core.specs.declared.stage.Stage.{Stage}
-use Rattle.conn_core.specs.declared.stage.Stage.TheVariants as at
 use Rattle.conn_core.specs.Trace.{Need, Bytes, Look, Enter, Begin, Park, Leave, Resume, Finish, Retire, Write, Close, Reply, Found, UnknownApp, Entered, Refused, Interrupted, Goes, Resumed, NotParked, Ended, trace}
-use Rattle.conn_core.specs.Stands.{State, Held, served, replied, left_of, hears, Going, tickets_in, spent_in, held_at, held_by, Plain, Broken, IsEnding, StandsAs, Stands, Waits, IsBroken}
+use Rattle.conn_core.specs.Stands.{State, Held, served, replied, left_of, hears, Going, tickets_in, spent_in, held_at, Plain, IsEnding, StandsAs, Stands, Waits}
 
 module _ {R P T : Type 0} where
   pub tickets_append : (a b : List (Reply R P T)) → tickets_in (a ++ b) ≡ tickets_in a ++ tickets_in b

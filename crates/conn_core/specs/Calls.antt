@@ -1,5 +1,5 @@
 -- When a call may be made, and the state after an answer.
-use Rattle.std.specs.Prelude.{◌≡◌, ℕ, Bool, true, false, Option, Some, None, List, [], ◌∷◌}
+use Rattle.std.specs.Prelude.{◌≡◌, ℕ, Bool, true, false, Option, Some, None, List, []}
 use Rattle.spop_hello.specs.Frames.{disconnect}
 use Rattle.conn_core.specs.declared.answer.LookAnswer as lookings
 use Rattle.conn_core.specs.declared.answer.LookAnswer.TheVariants as looks

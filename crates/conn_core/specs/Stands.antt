@@ -10,7 +10,7 @@ use Rattle.conn_core.specs.declared.need.Closing.TheVariants as closings
 use Rattle.conn_core.specs.declared.stage.Hold.{Hold}
 use Rattle.conn_core.specs.declared.stage.Stage.{Stage}
 use Rattle.conn_core.specs.declared.stage.Stage.TheVariants as at
-use Rattle.conn_core.specs.Trace.{Need, Bytes, Look, Enter, Begin, Park, Leave, Resume, Finish, Retire, Write, Close, Reply, Found, UnknownApp, Entered, Refused, Interrupted, Goes, Resumed, NotParked, Ended, judged, begun, entered, looked, finished, resumed, messages, answer, limit_of, onward, any_frame, trace}
+use Rattle.conn_core.specs.Trace.{Need, Bytes, Look, Enter, Begin, Park, Leave, Resume, Finish, Retire, Write, Close, Reply, Entered, judged, begun, entered, looked, finished, resumed, messages, answer, limit_of, onward, any_frame, trace}
 
 -- a state of the definition: the input so far, whether it has ended, the replies so far, and the needs that are done
 pub record State (R P T : Type 0) : Type 0 where

@@ -1,4 +1,4 @@
-use Rattle.std.proofs.Common.{◌≡◌, ◌++◌, List, append_assoc, ap, codes, ◌∙◌}
+use Rattle.std.proofs.Common.{◌++◌, List, append_assoc, ap, codes, ◌∙◌}
 use Rattle.spop_data.proofs.Steps.{on_ok}
 use Rattle.spop_talk.specs.declared.ack.Action.{Action}
 use Rattle.conn_core.specs.Outcome.{done_actions, text_action}

@@ -1,5 +1,4 @@
-use Rattle.std.proofs.Common.{◌≡◌, true, false, refl, sym, ap, ◌∙◌}
-use Rattle.conn_core.specs.declared.stage.Stage.TheVariants as at
+use Rattle.std.proofs.Common.{◌≡◌, true, false}
 use Rattle.conn_core.specs.Stands.{is_open}
 use Rattle.conn_core.proofs.Served.{open_at, shut_plain, shut_waiting}
 use Rattle.conn_core.proofs.conn.Conn.end.Goals as goal

@@ -1,5 +1,4 @@
-use Rattle.std.proofs.Common.{◌≡◌, true, false, refl, sym, ap, ◌∙◌, arith, length-append}
-use Rattle.conn_core.specs.declared.stage.Stage.TheVariants as at
+use Rattle.std.proofs.Common.{◌≡◌, true, false, arith, length-append}
 use Rattle.conn_core.specs.Stands.{is_open}
 use Rattle.conn_core.proofs.Served.{fed_broken, fed_plain, fed_waiting, open_at, plain_when}
 use Rattle.conn_core.proofs.conn.Conn.feed.Goals as goal

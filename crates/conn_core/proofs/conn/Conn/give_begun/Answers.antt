@@ -1,4 +1,4 @@
-use Rattle.std.proofs.Common.{◌≡◌, true, false, refl, sym, ap, ◌∙◌}
+use Rattle.std.proofs.Common.{refl, sym}
 use Rattle.conn_core.specs.declared.stage.Stage.TheVariants as at
 use Rattle.conn_core.proofs.Served.{interrupted_in, interrupted_alone, goes_in, goes_alone, fell, fell_in}
 use Rattle.conn_core.proofs.conn.Conn.give_begun.Goals as goal

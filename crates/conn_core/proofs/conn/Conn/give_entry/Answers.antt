@@ -1,5 +1,4 @@
-use Rattle.std.proofs.Common.{◌≡◌, true, false, refl, sym, ap, ◌∙◌}
-use Rattle.conn_core.specs.declared.stage.Stage.TheVariants as at
+use Rattle.std.proofs.Common.{sym}
 use Rattle.conn_core.proofs.Served.{entered_in, entry_refused}
 use Rattle.conn_core.proofs.conn.Conn.give_entry.Goals as goal
 

@@ -1,4 +1,4 @@
-use Rattle.std.proofs.Common.{◌≡◌, true, false, refl, sym, ap, ◌∙◌}
+use Rattle.std.proofs.Common.{refl, sym}
 use Rattle.conn_core.specs.declared.stage.Stage.TheVariants as at
 use Rattle.conn_core.proofs.Served.{looked_entry, looked_alone, looked_unknown, fell}
 use Rattle.conn_core.proofs.conn.Conn.give_look.Goals as goal

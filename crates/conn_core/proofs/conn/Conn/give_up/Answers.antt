@@ -1,5 +1,4 @@
-use Rattle.std.proofs.Common.{◌≡◌, true, false, refl, sym, ap, ◌∙◌, arith}
-use Rattle.conn_core.specs.declared.stage.Stage.TheVariants as at
+use Rattle.std.proofs.Common.{sym, arith}
 use Rattle.conn_core.proofs.Served.{gave_up, gave_up_none, least_rank}
 use Rattle.conn_core.proofs.Inner.{hears_open}
 use Rattle.conn_core.proofs.conn.Conn.give_up.Goals as goal

@@ -1,4 +1,4 @@
-use Rattle.std.proofs.Common.{◌≡◌, ◌+◌, ◌*◌, ◌≤◌, length, Some, refl, sym, ◌∙◌, ap, arith}
+use Rattle.std.proofs.Common.{◌≡◌, ◌+◌, ◌*◌, length, Some, refl, ◌∙◌, ap, arith}
 use Rattle.spop_talk.specs.Reading.{messages_of}
 use Rattle.conn_core.specs.Stands.{Held, calls_left}
 use Rattle.conn_core.proofs.Heads.{few_messages}

@@ -1,7 +1,7 @@
-use Rattle.std.proofs.Common.{◌≡◌, ◌+◌, ◌*◌, ◌<◌, length, refl, sym, ◌∙◌, ap, arith}
+use Rattle.std.proofs.Common.{◌≡◌, ◌+◌, ◌*◌, ◌<◌, length, refl, ◌∙◌, ap, arith}
 use Rattle.spop_frame.specs.Head.{head_of, Bad, Whole}
 use Rattle.spop_frame.specs.Held as framer
-use Rattle.conn_core.specs.Stands.{Held, calls_left, rank}
+use Rattle.conn_core.specs.Stands.{Held, calls_left}
 use Rattle.conn_core.specs.Trace.{limit_of}
 use Rattle.conn_core.proofs.Heads.{shorter}
 use Rattle.conn_core.proofs.Inner.{fallen, head_bad, head_whole}

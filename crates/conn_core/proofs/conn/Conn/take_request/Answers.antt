@@ -1,4 +1,4 @@
-use Rattle.std.proofs.Common.{◌≡◌, ◌∷◌, ap, refl}
+use Rattle.std.proofs.Common.{◌∷◌, ap, refl}
 use Rattle.conn_core.specs.Stands.{Held}
 use Rattle.conn_core.proofs.Inner.{fallen, request_good}
 use Rattle.conn_core.proofs.conn.Conn.take_request.Goals as goal
