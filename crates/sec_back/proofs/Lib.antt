@@ -1,3 +1,15 @@
+pub mod ActionTexts
+pub mod DecimalTexts
 pub mod Directives
+pub mod HeadTexts
+pub mod MacroReads
+pub mod MacroTexts
 pub mod Names
+pub mod OperatorTexts
+pub mod PieceTexts
+pub mod Places
+pub mod ReadTexts
+pub mod Repeats
 pub mod Spreads
+pub mod TargetTexts
+pub mod WordTexts

@@ -1,2 +1,7 @@
+pub mod Actions
 pub mod Directives
 pub mod Lines
+pub mod Macros
+pub mod Operators
+pub mod Targets
+pub mod Variables

@@ -1,11 +1,30 @@
 //! What is printed is read back: laws that join the printing of a listing to its reading.
 #![tactic(auto)]
 
+mod actions;
 mod lines;
 mod listings;
+mod macros;
+mod numbers;
+mod operators;
+mod phrases;
+mod quotes;
+mod targets;
+mod variables;
 
-pub use lines::{printed_lines_end, words_of_a_printed_line};
+pub use actions::{
+    names_of_transforms, printed_link_actions_are_read, printed_rule_actions_are_read,
+    printed_want_of_actions_is_read,
+};
+pub use lines::{printed_lines_end, words_of_a_line_can_be_printed, words_of_a_printed_line};
 pub use listings::{lines_of_a_printed_listing, printed_directives};
+pub use macros::{macros_that_were_read_can_be_printed, printed_macros_are_read};
+pub use numbers::printed_numbers_are_read;
+pub use operators::{names_of_operators, printed_operators_are_read};
+pub use phrases::printed_words_are_read;
+pub use quotes::{quoted_texts_are_read, quoted_texts_can_be_printed};
+pub use targets::printed_targets_are_read;
+pub use variables::names_of_variables;
 
 #[cfg(test)]
 mod tests {
@@ -17,5 +36,17 @@ mod tests {
         words_of_a_printed_line();
         printed_directives();
         lines_of_a_printed_listing();
+        printed_macros_are_read();
+        macros_that_were_read_can_be_printed();
+        quoted_texts_are_read();
+        printed_targets_are_read();
+        printed_words_are_read();
+        printed_operators_are_read();
+        printed_numbers_are_read();
+        printed_link_actions_are_read();
+        printed_rule_actions_are_read();
+        printed_want_of_actions_is_read();
+        quoted_texts_can_be_printed();
+        words_of_a_line_can_be_printed();
     }
 }

@@ -15,3 +15,8 @@ pub fn printed_lines_end()
 pub fn words_of_a_printed_line()
     ensures { (name : List ℕ) (given : List (List ℕ)) → is_name name ≡ true → AllByRecursion (λ word. ends_with_backslash word ≡ false) given → words (written name given) ≡ Ok (name ∷ given) }
 {}
+
+/// The words that were read from a line can be printed: none ends with a backslash. It does nothing.
+pub fn words_of_a_line_can_be_printed()
+    ensures { (line : List ℕ) (given : List (List ℕ)) → words line ≡ Ok given → AllByRecursion (λ word. ends_with_backslash word ≡ false) given }
+{}

@@ -1,0 +1,18 @@
+ghost use Rattle.std.specs.Prelude.{◌≡◌, List, Ok};
+ghost use Rattle.sec_ast.specs.PrintTargets.{targets_text};
+ghost use Rattle.sec_ast.specs.declared.target.Target.{Target};
+ghost use Rattle.sec_parts.specs.Targets.{targets_of};
+ghost use Rattle.sec_back.specs.Targets.{AreTargets};
+
+use crate::quotes::quoted_texts_are_read;
+use crate::variables::names_of_variables;
+use sec_ast::variable_of_its_name;
+
+/// The text of some targets is read as these targets. It does nothing.
+pub fn printed_targets_are_read()
+    ensures { (targets : List Target) → AreTargets targets → targets_of (targets_text targets) ≡ Ok targets }
+{
+    names_of_variables();
+    variable_of_its_name();
+    quoted_texts_are_read();
+}
