@@ -16,7 +16,7 @@ begins_high [] = false
 begins_high (b ∷ ds) = not (b == 48)
 
 -- what the digits of a number are
-record Digits (n : ℕ) (ds : List ℕ) : Type 0 where
+pub record Digits (n : ℕ) (ds : List ℕ) : Type 0 where
   pub value : value_of ds ≡ n
   pub digits : list_all is_digit ds ≡ true
   pub short : n < 10 → length ds ≡ 1
@@ -65,7 +65,7 @@ more n ds large before =
       first = λ a. high_push ds ((48 + n % 10) ∷ []) (before.first (omega (arith, large)));
     }
 
-digits_are : (n : ℕ) → n < 2 ^ 64 → Digits n (decimal n)
+pub digits_are : (n : ℕ) → n < 2 ^ 64 → Digits n (decimal n)
 digits_are n small = decimal_by_steps Digits one more n small
 
 three : (p q r : Bool) → p ≡ true → q ≡ true → r ≡ true → (p && q && r) ≡ true

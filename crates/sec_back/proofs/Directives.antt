@@ -147,7 +147,7 @@ form_of d h =
     let three = and_parts (is_name d.0) (begins_plainly d.0) two.0 in
     record { name = three.0; begins = three.1; feed = two.1; some = one.1 }
 
-ends_of : (words : List (List ℕ)) → AllByRecursion IsSafe words → AllByRecursion (λ word. ends_with_backslash word ≡ false) words
+pub ends_of : (words : List (List ℕ)) → AllByRecursion IsSafe words → AllByRecursion (λ word. ends_with_backslash word ≡ false) words
 ends_of [] safe = tt
 ends_of (word ∷ words) safe = (safe.0.1, ends_of words safe.1)
 

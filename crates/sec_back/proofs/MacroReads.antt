@@ -28,15 +28,15 @@ both_true p q a b = rw (a, b) refl
 len_stops : (b : ℕ) (rest : List ℕ) → begins_reference (b ∷ rest) ≡ true → text_len (b ∷ rest) ≡ 0
 len_stops b rest h = rw h refl
 
-len_goes : (b : ℕ) (rest : List ℕ) → begins_reference (b ∷ rest) ≡ false → text_len (b ∷ rest) ≡ suc (text_len rest)
+pub len_goes : (b : ℕ) (rest : List ℕ) → begins_reference (b ∷ rest) ≡ false → text_len (b ∷ rest) ≡ suc (text_len rest)
 len_goes b rest h = let step = text_goes b rest h in omega (arith, step)
 
 -- nothing, or a reference, stands here
-abbrev Stops : List ℕ → Type 0
+abbrev pub Stops : List ℕ → Type 0
 Stops [] = Unit {0}
 Stops (b ∷ rest) = begins_reference (b ∷ rest) ≡ true
 
-text_stops : (text : List ℕ) → Stops (drop (text_len text) text)
+pub text_stops : (text : List ℕ) → Stops (drop (text_len text) text)
 text_stops [] = tt
 text_stops (b ∷ rest) = elim (cases_Bool (begins_reference (b ∷ rest))) [
   | inl is ↦ subst (λ n. Stops (drop n (b ∷ rest))) (sym (len_stops b rest is)) is
@@ -110,7 +110,7 @@ unless_refused : (whole : List ℕ) (p : Bool) (read : Result Part Bad) → Give
 unless_refused whole true read h = tt
 unless_refused whole false read h = h
 
-none_left : (n : ℕ) (text : List ℕ) → list_any is_close text ≡ false → list_any is_close (drop n text) ≡ false
+pub none_left : (n : ℕ) (text : List ℕ) → list_any is_close text ≡ false → list_any is_close (drop n text) ≡ false
 none_left zero text h = h
 none_left (suc n) [] h = refl
 none_left (suc n) (b ∷ text) h = none_left n text (or_parts (is_close b) (list_any is_close text) h).1
@@ -122,7 +122,7 @@ reference_gives whole inside none =
 
 -- ---- one part
 
-before_first : (p : ℕ → Bool) (text : List ℕ) → list_any p (take (position_or_len p text) text) ≡ false
+pub before_first : (p : ℕ → Bool) (text : List ℕ) → list_any p (take (position_or_len p text) text) ≡ false
 before_first p [] = refl
 before_first p (b ∷ text) = elim (cases_Bool (p b)) [
   | inl is ↦ subst (λ n. list_any p (take n (b ∷ text)) ≡ false) (sym (here p b text is)) refl
@@ -138,7 +138,7 @@ inside_none text h =
     ap (list_any is_close) (sym (drop-take 2 (to_byte 125 text - 2) text) ∙ ap (λ n. drop 2 (take n text)) whole)
     ∙ none_left 2 (take (to_byte 125 text) text) (before_first is_close text)
 
-abbrev GivesRead : Result (Option (Part × List ℕ)) Bad → Type 0
+abbrev pub GivesRead : Result (Option (Part × List ℕ)) Bad → Type 0
 GivesRead (Ok None) = Unit {0}
 GivesRead (Ok (Some x)) = IsReference x.0
 GivesRead (Err e) = Unit {0}
@@ -147,38 +147,38 @@ with_rest_gives : (rest : List ℕ) (read : Result Part Bad) → Gives read → 
 with_rest_gives rest (Ok part) h = h
 with_rest_gives rest (Err e) h = tt
 
-reference_reads : (b : ℕ) (rest : List ℕ) → begins_reference (b ∷ rest) ≡ true → part_at (b ∷ rest) ≡ reference_at (b ∷ rest)
+pub reference_reads : (b : ℕ) (rest : List ℕ) → begins_reference (b ∷ rest) ≡ true → part_at (b ∷ rest) ≡ reference_at (b ∷ rest)
 unfolding part_at
 reference_reads b rest is = rw is refl
 
-reference_at_gives : (text : List ℕ) → begins_reference text ≡ true → GivesRead (reference_at text)
+pub reference_at_gives : (text : List ℕ) → begins_reference text ≡ true → GivesRead (reference_at text)
 reference_at_gives text h =
     with_rest_gives (drop (to_byte 125 text + 1) text) (reference (take (to_byte 125 text + 1) text) (take (to_byte 125 text - 2) (drop 2 text)))
     (reference_gives (take (to_byte 125 text + 1) text) (take (to_byte 125 text - 2) (drop 2 text)) (inside_none text h))
 
-text_reads : (b : ℕ) (rest : List ℕ) → begins_reference (b ∷ rest) ≡ false → part_at (b ∷ rest) ≡ Ok (Some (parts.Text (take (text_len (b ∷ rest)) (b ∷ rest)), drop (text_len (b ∷ rest)) (b ∷ rest)))
+pub text_reads : (b : ℕ) (rest : List ℕ) → begins_reference (b ∷ rest) ≡ false → part_at (b ∷ rest) ≡ Ok (Some (parts.Text (take (text_len (b ∷ rest)) (b ∷ rest)), drop (text_len (b ∷ rest)) (b ∷ rest)))
 unfolding part_at
 text_reads b rest is = rw is refl
 
 -- what was read, taken apart
-abbrev IsTextRead : Result (Option (Part × List ℕ)) Bad → Type 0
+abbrev pub IsTextRead : Result (Option (Part × List ℕ)) Bad → Type 0
 IsTextRead (Ok None) = Unit {0}
 IsTextRead (Ok (Some (parts.Text text, rest))) = Unit {0}
 IsTextRead (Ok (Some (parts.Ref var key, rest))) = ⊥
 IsTextRead (Err e) = Unit {0}
 
-abbrev given_of : Result (Option (Part × List ℕ)) Bad → List ℕ
+abbrev pub given_of : Result (Option (Part × List ℕ)) Bad → List ℕ
 given_of (Ok None) = []
 given_of (Ok (Some (parts.Text text, rest))) = text
 given_of (Ok (Some (parts.Ref var key, rest))) = []
 given_of (Err e) = []
 
-abbrev left_of : Result (Option (Part × List ℕ)) Bad → List ℕ
+abbrev pub left_of : Result (Option (Part × List ℕ)) Bad → List ℕ
 left_of (Ok None) = []
 left_of (Ok (Some x)) = x.1
 left_of (Err e) = []
 
-nothing_reads : part_at [] ≡ Ok None
+pub nothing_reads : part_at [] ≡ Ok None
 unfolding part_at
 nothing_reads = refl
 
@@ -196,11 +196,11 @@ canonical_close var key macro =
     let inside : List ℕ = variable_name var ++ key_text key in
     ap (λ (l : List ℕ). list_any is_close l) (append_assoc inside (125 ∷ []) (macro_text macro)) ∙ any_behind is_close inside 125 (macro_text macro) refl
 
-text_is_written : (text : List ℕ) (macro : List Part) → macro_text (parts.Text text ∷ macro) ≡ text ++ macro_text macro
+pub text_is_written : (text : List ℕ) (macro : List Part) → macro_text (parts.Text text ∷ macro) ≡ text ++ macro_text macro
 unfolding macro_text
 text_is_written text macro = refl
 
-nothing_is_written : macro_text [] ≡ []
+pub nothing_is_written : macro_text [] ≡ []
 unfolding macro_text
 nothing_is_written = refl
 
@@ -258,7 +258,7 @@ again_all (parts.Text given ∷ macro) text t = text_again given macro text t.0 
 again_all (parts.Ref var key ∷ macro) text t = reference_again var key macro text t.0 t.1 (again_all macro t.0 t.2)
 
 -- the end comes where nothing is left
-ends_at : (rest : List ℕ) → part_at rest ≡ Ok None → rest ≡ []
+pub ends_at : (rest : List ℕ) → part_at rest ≡ Ok None → rest ≡ []
 ends_at [] h = refl
 ends_at (b ∷ rest) h = elim (cases_Bool (begins_reference (b ∷ rest))) [
   | inl is ↦ absurd (no_end (reference (take (to_byte 125 (b ∷ rest) + 1) (b ∷ rest)) (take (to_byte 125 (b ∷ rest) - 2) (drop 2 (b ∷ rest)))) (drop (to_byte 125 (b ∷ rest) + 1) (b ∷ rest)) (sym (reference_reads b rest is) ∙ h))

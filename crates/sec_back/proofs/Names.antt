@@ -14,7 +14,7 @@ use Rattle.sec_back.specs.Lines.{has_no_blank, is_name}
 pub no_prefix : {X : Type 0} → (p : X → Bool) (x : X) (xs : List X) → p x ≡ false → prefix_len p (x ∷ xs) ≡ 0
 no_prefix p x xs h = rw h refl
 
-more_prefix : {X : Type 0} → (p : X → Bool) (x : X) (xs : List X) → p x ≡ true → prefix_len p (x ∷ xs) ≡ suc (prefix_len p xs)
+pub more_prefix : {X : Type 0} → (p : X → Bool) (x : X) (xs : List X) → p x ≡ true → prefix_len p (x ∷ xs) ≡ suc (prefix_len p xs)
 more_prefix p x xs h = rw h (omega arith)
 
 pub not_false : (p : Bool) → not p ≡ true → p ≡ false

@@ -13,7 +13,7 @@ use Rattle.sec_back.proofs.Names.{not_false}
 
 -- ---- texts in quotes
 
-abbrev Ends : Option (List ℕ × List ℕ) → Type 0
+abbrev pub Ends : Option (List ℕ × List ℕ) → Type 0
 Ends None = Unit {0}
 Ends (Some x) = ends_with_backslash x.0 ≡ false
 
@@ -92,7 +92,7 @@ closed_ends : (o : Option (List ℕ × List ℕ)) → Ends o → EndsRead (close
 closed_ends None h = tt
 closed_ends (Some x) h = closed_one (is_apart x.1) x h
 
-last_is : (word : List ℕ) → ends_with_backslash word ≡ (slice_index word (length word - 1) == 92)
+pub last_is : (word : List ℕ) → ends_with_backslash word ≡ (slice_index word (length word - 1) == 92)
 last_is [] = refl
 last_is (b ∷ []) = refl
 last_is (b ∷ c ∷ rest) =

@@ -53,5 +53,5 @@ has_no_feed (b ∷ text) = not (is_line_feed b) && has_no_feed text
 abbrev pub IsSafe : List ℕ → Type 0
 IsSafe word = (has_no_feed word ≡ true) × (ends_with_backslash word ≡ false)
 
-abbrev pub IsPrintable : Listing → Type 0
-IsPrintable listing = AllByRecursion (λ (directive : Directive). AllByRecursion IsSafe directive.1) (directives_of listing)
+abbrev pub HasSafeWords : Listing → Type 0
+HasSafeWords listing = AllByRecursion (λ (directive : Directive). AllByRecursion IsSafe directive.1) (directives_of listing)

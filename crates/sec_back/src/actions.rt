@@ -1,5 +1,5 @@
 ghost use Rattle.std.specs.Prelude.{◌≡◌, ◌++◌, [], Bool, Ok, codes, false, true};
-ghost use Rattle.std.specs.List.{join_with_byte};
+ghost use Rattle.std.specs.List.{join_with_byte, list_all};
 ghost use Rattle.sec_ast.specs.PrintActions.{link_pieces, rule_pieces};
 ghost use Rattle.sec_ast.specs.PrintRules.{action_word};
 ghost use Rattle.sec_ast.specs.Transform.{transform_name};
@@ -10,18 +10,20 @@ ghost use Rattle.sec_parts.specs.Actions.{is_word};
 ghost use Rattle.sec_parts.specs.Acts.{actions_in, no_acts};
 ghost use Rattle.sec_parts.specs.Kinds.{is_refused_transform};
 ghost use Rattle.sec_parts.specs.declared.kinds.Stand.TheVariants as stands;
+ghost use Rattle.sec_back.specs.Lines.{is_printed};
 ghost use Rattle.sec_back.specs.Actions.{IsHead, IsPlainValue, IsTail, has_pieces, of_rule, with_link};
 
 use crate::macros::printed_macros_are_read;
 use sec_ast::{engine_of_its_name, transform_of_its_name};
 
 /// The names of transformations are none of those that are refused, are not `none`, and stand for
-/// themselves without quotes. It does nothing.
+/// themselves without quotes; they are ASCII. It does nothing.
 #[tactic(auto, unfolding(sec_parts::specs::Kinds::is_refused_transform, sec_parts::specs::Actions::is_word))]
 pub fn names_of_transforms()
     ensures allowed { (transform : Transform) → is_refused_transform (transform_name transform) ≡ false }
     ensures others { (transform : Transform) → is_word (codes "none") (transform_name transform) ≡ false }
     ensures plain { (transform : Transform) → IsPlainValue (transform_name transform) }
+    ensures printed { (transform : Transform) → list_all is_printed (transform_name transform) ≡ true }
 {}
 
 /// The actions of a later link are read back from their text, where there are any. It does nothing.

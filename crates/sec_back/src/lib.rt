@@ -2,6 +2,7 @@
 #![tactic(auto)]
 
 mod actions;
+mod bounds;
 mod lines;
 mod listings;
 mod macros;
@@ -9,6 +10,7 @@ mod numbers;
 mod operators;
 mod phrases;
 mod quotes;
+mod readings;
 mod targets;
 mod variables;
 
@@ -16,6 +18,7 @@ pub use actions::{
     names_of_transforms, printed_link_actions_are_read, printed_rule_actions_are_read,
     printed_want_of_actions_is_read,
 };
+pub use bounds::bounds_are_never_met;
 pub use lines::{printed_lines_end, words_of_a_line_can_be_printed, words_of_a_printed_line};
 pub use listings::{lines_of_a_printed_listing, printed_directives};
 pub use macros::{macros_that_were_read_can_be_printed, printed_macros_are_read};
@@ -23,7 +26,11 @@ pub use numbers::printed_numbers_are_read;
 pub use operators::{names_of_operators, printed_operators_are_read};
 pub use phrases::printed_words_are_read;
 pub use quotes::{quoted_texts_are_read, quoted_texts_can_be_printed};
-pub use targets::printed_targets_are_read;
+pub use readings::{
+    listings_are_read_back, listings_that_were_read_can_be_printed, places_are_not_printed,
+    printed_listings_are_read,
+};
+pub use targets::{printed_targets_are_read, targets_that_were_read_can_be_printed};
 pub use variables::names_of_variables;
 
 #[cfg(test)]
@@ -48,5 +55,11 @@ mod tests {
         printed_want_of_actions_is_read();
         quoted_texts_can_be_printed();
         words_of_a_line_can_be_printed();
+        printed_listings_are_read();
+        places_are_not_printed();
+        listings_that_were_read_can_be_printed();
+        listings_are_read_back();
+        bounds_are_never_met();
+        targets_that_were_read_can_be_printed();
     }
 }

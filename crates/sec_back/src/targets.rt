@@ -1,4 +1,4 @@
-ghost use Rattle.std.specs.Prelude.{◌≡◌, List, Ok};
+ghost use Rattle.std.specs.Prelude.{◌≡◌, ℕ, List, Ok};
 ghost use Rattle.sec_ast.specs.PrintTargets.{targets_text};
 ghost use Rattle.sec_ast.specs.declared.target.Target.{Target};
 ghost use Rattle.sec_parts.specs.Targets.{targets_of};
@@ -16,3 +16,8 @@ pub fn printed_targets_are_read()
     variable_of_its_name();
     quoted_texts_are_read();
 }
+
+/// Targets that were read from some text are ones whose own text is read back. It does nothing.
+pub fn targets_that_were_read_can_be_printed()
+    ensures { (text : List ℕ) (targets : List Target) → targets_of text ≡ Ok targets → AreTargets targets }
+{}

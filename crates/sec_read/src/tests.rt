@@ -364,3 +364,45 @@ fn one_link_too_many(rt: HostRuntime) -> Result<(), Fail> {
     assert!(rt; text_gives(alloc, text.as_slice(), b"d/a:33: TooLong "));
     Ok(())
 }
+
+// A comment of so many bytes.
+fn comment(alloc: Global, length: u64) -> Result<Bytes, NoMemory> {
+    let mut text = Bytes::new(alloc);
+    for _ in 0..length {
+        text.push(b'#')?;
+    }
+    Ok(text)
+}
+
+// What `d/a` gives beside a comment `d/b` of so many bytes.
+fn comment_gives(alloc: Global, text: &[u8], length: u64, given: &[u8]) -> Result<bool, NoMemory> {
+    let mut files = Seq::new(alloc);
+    files.push(MemFile {
+        name: Bytes::copy(alloc, b"d/a")?,
+        content: Bytes::copy(alloc, text)?,
+    })?;
+    files.push(MemFile {
+        name: Bytes::copy(alloc, b"d/b")?,
+        content: comment(alloc, length)?,
+    })?;
+    let mut files = SureFiles::new(files);
+    Ok(is_shown(alloc, &read_rules(alloc, b"d/a", &mut files), given))
+}
+
+// A file has 4 MiB at most.
+#[test]
+fn a_file_at_the_limit(rt: HostRuntime) {
+    let alloc = rt.alloc();
+    assert!(rt; comment_gives(alloc, b"Include b", 4_194_304, b"") == Ok(true));
+    assert!(rt; comment_gives(alloc, b"Include b", 4_194_305, b"d/a:1: TooLong b") == Ok(true));
+}
+
+// All texts together have 16 MiB at most: here 40 bytes and four times those of the comment.
+const FOUR_TIMES: &[u8] = b"Include b\nInclude b\nInclude b\nInclude b\n";
+
+#[test]
+fn texts_at_the_limit(rt: HostRuntime) {
+    let alloc = rt.alloc();
+    assert!(rt; comment_gives(alloc, FOUR_TIMES, 4_194_294, b"") == Ok(true));
+    assert!(rt; comment_gives(alloc, FOUR_TIMES, 4_194_295, b"d/a:4: TooLong b") == Ok(true));
+}
