@@ -3,4 +3,5 @@ pub mod Earliest
 pub mod Meanings
 pub mod PatternLemmas
 pub mod PhraseLaw
+pub mod Selecting
 pub mod Texts

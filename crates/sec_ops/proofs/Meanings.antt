@@ -9,9 +9,9 @@ use Rattle.regex.specs.declared.bytes.regex.Regex.{Regex}
 use Rattle.sec_ast.specs.declared.operator.OpKind as kinds
 use Rattle.sec_ast.specs.declared.operator.OpKind.TheVariants.{Rx, Pm, Streq, Contains, BeginsWith, EndsWith, Within, Eq, Ge, Gt, Le, Lt, IpMatch, ValidateByteRange, ValidateUrlEncoding, ValidateUtf8Encoding, UnconditionalMatch, NoMatch}
 use Rattle.sec_ast.specs.declared.operator.Op.{Op}
-use Rattle.sec_ops.specs.declared.built.Built.{Built}
+use Rattle.sec_ops.specs.declared.built.Test.{Test}
 use Rattle.sec_ops.specs.declared.built.BuildFault.{BuildFault}
-use Rattle.sec_ops.specs.Hits.{Groups, built_hit, hit, pattern_hit, plain_test, hit_of, source_of, source_reading, when, IsBytes}
+use Rattle.sec_ops.specs.Hits.{Groups, test_hit, hit, pattern_hit, plain_test, hit_of, source_of, source_reading, when, IsBytes}
 use Rattle.sec_ops.specs.Pattern.{reading_of, rule_config, spans_of, texts_in}
 use Rattle.sec_ops.proofs.PatternLemmas.{reading, groups_alike, name_count}
 
@@ -52,13 +52,13 @@ pub unreadable : (source : List ℕ) → is_utf8 source ≡ false → source_rea
 unreadable source none = rw none refl
 
 -- another way to write what is found
-pub carried : (r : Result Built BuildFault) (f g : List ℕ → List ℕ → Option Groups) → ((a v : List ℕ) → f a v ≡ g a v)
-    → IfOk r (λ b. (a v : List ℕ) → IsBytes v → built_hit b a v ≡ f a v) → IfOk r (λ b. (a v : List ℕ) → IsBytes v → built_hit b a v ≡ g a v)
+pub carried : (r : Result Test BuildFault) (f g : List ℕ → List ℕ → Option Groups) → ((a v : List ℕ) → f a v ≡ g a v)
+    → IfOk r (λ b. (a v : List ℕ) → IsBytes v → test_hit b a v ≡ f a v) → IfOk r (λ b. (a v : List ℕ) → IsBytes v → test_hit b a v ≡ g a v)
 carried (Ok b) f g same h = λ a v bytes. h a v bytes ∙ same a v
 carried (Err e) f g same h = tt
 
-pub carried_any : (r : Result Built BuildFault) (f g : List ℕ → List ℕ → Option Groups) → ((a v : List ℕ) → f a v ≡ g a v)
-    → IfOk r (λ b. (a v : List ℕ) → built_hit b a v ≡ f a v) → IfOk r (λ b. (a v : List ℕ) → IsBytes v → built_hit b a v ≡ g a v)
+pub carried_any : (r : Result Test BuildFault) (f g : List ℕ → List ℕ → Option Groups) → ((a v : List ℕ) → f a v ≡ g a v)
+    → IfOk r (λ b. (a v : List ℕ) → test_hit b a v ≡ f a v) → IfOk r (λ b. (a v : List ℕ) → IsBytes v → test_hit b a v ≡ g a v)
 carried_any (Ok b) f g same h = λ a v bytes. h a v ∙ same a v
 carried_any (Err e) f g same h = tt
 

@@ -1,5 +1,5 @@
 -- What an operator finds in a value: nothing, or the texts of its groups.
-use Rattle.std.specs.Prelude.{ℕ, Bool, true, false, not, cond, List, [], ◌∷◌, map, Option, Some, None, is_some, option_and_then, nat_eq, ◌<◌, get_or}
+use Rattle.std.specs.Prelude.{◌≡◌, ℕ, Bool, true, false, not, cond, List, [], ◌∷◌, map, Option, Some, None, is_some, option_and_then, nat_eq, ◌<◌, get_or}
 use Rattle.std.specs.List.{starts_with, ends_with}
 use Rattle.std.specs.Cmp.Lexicographic.{pointwise}
 use Rattle.std.specs.Option.{option_map}
@@ -16,7 +16,6 @@ use Rattle.sec_ast.specs.declared.macros.Part as parts
 use Rattle.sec_ast.specs.declared.macros.Part.TheVariants.{Text}
 use Rattle.sec_ops.specs.declared.built.Test as tests
 use Rattle.sec_ops.specs.declared.built.Test.TheVariants.{Pattern, Phrases, Addresses, Ranges, Plain}
-use Rattle.sec_ops.specs.declared.built.Built as builts
 use Rattle.sec_ops.specs.declared.built.Hit as answers
 use Rattle.sec_ops.specs.declared.built.Hit.TheVariants.{No, Yes}
 use Rattle.sec_ops.specs.Escapes.{has_bad_escape}
@@ -94,9 +93,10 @@ test_hit (Addresses set) argument value = when (is_member set value)
 test_hit (Ranges ranges) argument value = when (has_other ranges value)
 test_hit (Plain kind) argument value = when (plain_test kind argument value)
 
-abbrev pub built_hit : builts.Built → List ℕ → List ℕ → Option Groups
-built_hit built argument value = test_hit built.test argument value
-
 -- each byte is below 256
 abbrev pub IsBytes : List ℕ → Type 0
 IsBytes value = (k : ℕ) → get_or value k 0 < 256
+
+-- it finds in each text of bytes what the operator finds
+abbrev pub IsBuiltFrom : tests.Test → ops.Op → Type 0
+IsBuiltFrom test op = (argument value : List ℕ) → IsBytes value → test_hit test argument value ≡ hit op argument value

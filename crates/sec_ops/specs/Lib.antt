@@ -4,3 +4,4 @@ pub mod Number
 pub mod Pattern
 pub mod Phrases
 pub mod Ranges
+pub mod Selectors

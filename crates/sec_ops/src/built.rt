@@ -2,7 +2,7 @@ ghost use Rattle.std.specs.Prelude.{◌≡◌, List, ℕ, [], None, IfOk, IfErr,
 ghost use Rattle.std.specs.Cmp.Lexicographic.{pointwise};
 ghost use Rattle.sec_ast.specs.declared.operator.OpKind.TheVariants.{Rx, Pm, IpMatch, ValidateByteRange};
 ghost use Rattle.ip_set.specs.Blocks.{IsFirstBad};
-ghost use Rattle.sec_ops.specs.Hits.{built_hit, groups_of, has, hit, hit_of, pattern_hit, phrase_hit, plain_test, source_of, source_reading, when, IsBytes};
+ghost use Rattle.sec_ops.specs.Hits.{IsBuiltFrom, IsBytes, groups_of, has, hit, hit_of, pattern_hit, phrase_hit, plain_test, source_of, source_reading, test_hit, when};
 
 use crate::escapes::{has_bad_escape, is_text};
 use crate::numbers::order_of;
@@ -11,8 +11,10 @@ use crate::phrases::{first_end, fold, fold_all, place};
 use crate::ranges::{Range, has_other, read_ranges};
 use ip_set::{IpFault, IpSet};
 use regex::bytes::Regex;
-use sec_ast::{Op, OpKind, Part, Selector};
+use sec_ast::{Op, OpKind, Part};
 use std::alloc::Global;
+use std::marker::Model;
+use std::snapshot::Snapshot;
 use waf_plain::{Bytes, NoMemory, Seq};
 
 /// Why an operator is not built.
@@ -25,6 +27,17 @@ pub enum BuildFault {
     NoMemory,
 }
 
+impl From<NoMemory> for BuildFault {
+    ghost use Rattle.std.specs.Prelude.{◌≡◌};
+    ghost use Rattle.sec_ops.specs.declared.built.BuildFault.TheVariants.{NoMemory as no_memory};
+
+    ghost from_gives = { λ _ fault. fault ≡ no_memory };
+
+    fn from(_: NoMemory) -> Self {
+        BuildFault::NoMemory
+    }
+}
+
 /// What an operator found in a value.
 #[derive(Debug, Drop)]
 pub enum Hit {
@@ -34,11 +47,25 @@ pub enum Hit {
 }
 
 /// An operator that is ready to be asked. A pattern is compiled once; what a search needs is made
-/// for one value and dropped.
+/// for one value and dropped. Contracts see it as the operator that it was built from, of which no
+/// copy is kept.
 #[derive(Drop)]
 pub struct Built {
+    op: Snapshot<Op>,
     alloc: Global,
     test: Test,
+}
+
+impl Model for Built {
+    ghost use Rattle.sec_ast.specs.declared.operator.Op.{Op};
+
+    ghost Value = { Op };
+
+    ghost view = { λ s. s.op.value };
+
+    ghost use Rattle.sec_ops.specs.Hits.{IsBuiltFrom};
+
+    ghost invariant = { λ s. IsBuiltFrom s.test s.op.value };
 }
 
 #[derive(Drop)]
@@ -53,22 +80,35 @@ enum Test {
 
 /// Builds an operator (ModSecurity reference manual, "Operators").
 pub fn build(alloc: Global, op: &Op) -> Result<Built, BuildFault>
-    ensures ok { IfOk result (λ built. (argument value : List ℕ) → IsBytes value → built_hit built argument value ≡ hit op.now argument value) }
+    ensures ok { IfOk result (λ built. built ≡ op.now) }
     ensures bad { IfErr result (λ e. e ≡ BuildFault.BadPattern → (op.now.kind ≡ Rx) × (source_reading (source_of op.now.text) ≡ None)) }
     ensures read { IfOk result (λ _. op.now.kind ≡ Rx → IsSome (source_reading (source_of op.now.text))) }
 
     // No set of addresses is built of a word that names none.
     ensures word { (at : ℕ) → op.now.kind ≡ IpMatch → IsFirstBad op.now.words at → IsErrOf result BuildFault.NoMemory }
 {
-    match op.kind {
-        OpKind::Rx => build_pattern(alloc, source_of(op.text.as_slice())),
-        OpKind::Pm => build_phrases(alloc, &op.words),
-        OpKind::IpMatch => build_addresses(alloc, &op.words),
-        OpKind::ValidateByteRange => build_ranges(alloc, &op.words),
-        kind => Ok(Built {
+    match test_of(alloc, op) {
+        Ok(test) => Ok(Built {
+            op: Snapshot::of(op),
             alloc,
-            test: Test::Plain(kind),
+            test,
         }),
+        Err(fault) => Err(fault),
+    }
+}
+
+fn test_of(alloc: Global, op: &Op) -> Result<Test, BuildFault>
+    ensures ok { IfOk result (λ test. IsBuiltFrom test op.now) }
+    ensures bad { IfErr result (λ e. e ≡ BuildFault.BadPattern → (op.now.kind ≡ Rx) × (source_reading (source_of op.now.text) ≡ None)) }
+    ensures read { IfOk result (λ _. op.now.kind ≡ Rx → IsSome (source_reading (source_of op.now.text))) }
+    ensures word { (at : ℕ) → op.now.kind ≡ IpMatch → IsFirstBad op.now.words at → IsErrOf result BuildFault.NoMemory }
+{
+    match op.kind {
+        OpKind::Rx => pattern_test(alloc, source_of(op.text.as_slice())),
+        OpKind::Pm => phrases_test(alloc, &op.words),
+        OpKind::IpMatch => addresses_test(alloc, &op.words),
+        OpKind::ValidateByteRange => ranges_test(alloc, &op.words),
+        kind => Ok(Test::Plain(kind)),
     }
 }
 
@@ -81,8 +121,8 @@ fn source_of(parts: &[Part]) -> &[u8]
     }
 }
 
-fn build_pattern(alloc: Global, source: &[u8]) -> Result<Built, BuildFault>
-    ensures ok { IfOk result (λ built. (argument value : List ℕ) → IsBytes value → built_hit built argument value ≡ pattern_hit source.now value) }
+fn pattern_test(alloc: Global, source: &[u8]) -> Result<Test, BuildFault>
+    ensures ok { IfOk result (λ test. (argument value : List ℕ) → IsBytes value → test_hit test argument value ≡ pattern_hit source.now value) }
     ensures bad { IfErr result (λ e. e ≡ BuildFault.BadPattern → source_reading source.now ≡ None) }
     ensures read { IfOk result (λ _. IsSome (source_reading source.now)) }
 {
@@ -90,50 +130,38 @@ fn build_pattern(alloc: Global, source: &[u8]) -> Result<Built, BuildFault>
         return Err(BuildFault::BadPattern);
     };
     match compile(alloc, text) {
-        Ok(regex) => Ok(Built {
-            alloc,
-            test: Test::Pattern(regex),
-        }),
+        Ok(regex) => Ok(Test::Pattern(regex)),
         Err(fault) => Err(fault),
     }
 }
 
-fn build_phrases(alloc: Global, words: &Seq<Bytes>) -> Result<Built, BuildFault>
-    ensures ok { IfOk result (λ built. (argument value : List ℕ) → built_hit built argument value ≡ hit_of Pm [] words.now argument value) }
+fn phrases_test(alloc: Global, words: &Seq<Bytes>) -> Result<Test, BuildFault>
+    ensures ok { IfOk result (λ test. (argument value : List ℕ) → test_hit test argument value ≡ hit_of Pm [] words.now argument value) }
     ensures err { IfErr result (λ e. e ≡ BuildFault.NoMemory) }
 {
     match fold_all(alloc, words) {
-        Ok(phrases) => Ok(Built {
-            alloc,
-            test: Test::Phrases(phrases),
-        }),
+        Ok(phrases) => Ok(Test::Phrases(phrases)),
         Err(NoMemory) => Err(BuildFault::NoMemory),
     }
 }
 
-fn build_addresses(alloc: Global, words: &Seq<Bytes>) -> Result<Built, BuildFault>
-    ensures ok { IfOk result (λ built. (argument value : List ℕ) → built_hit built argument value ≡ hit_of IpMatch [] words.now argument value) }
+fn addresses_test(alloc: Global, words: &Seq<Bytes>) -> Result<Test, BuildFault>
+    ensures ok { IfOk result (λ test. (argument value : List ℕ) → test_hit test argument value ≡ hit_of IpMatch [] words.now argument value) }
     ensures err { IfErr result (λ e. e ≡ BuildFault.NoMemory) }
     ensures word { (at : ℕ) → IsFirstBad words.now at → IsErrOf result BuildFault.NoMemory }
 {
     match IpSet::read(alloc, words) {
-        Ok(set) => Ok(Built {
-            alloc,
-            test: Test::Addresses(set),
-        }),
+        Ok(set) => Ok(Test::Addresses(set)),
         Err(_) => Err(BuildFault::NoMemory),
     }
 }
 
-fn build_ranges(alloc: Global, words: &Seq<Bytes>) -> Result<Built, BuildFault>
-    ensures ok { IfOk result (λ built. (argument value : List ℕ) → built_hit built argument value ≡ hit_of ValidateByteRange [] words.now argument value) }
+fn ranges_test(alloc: Global, words: &Seq<Bytes>) -> Result<Test, BuildFault>
+    ensures ok { IfOk result (λ test. (argument value : List ℕ) → test_hit test argument value ≡ hit_of ValidateByteRange [] words.now argument value) }
     ensures err { IfErr result (λ e. e ≡ BuildFault.NoMemory) }
 {
     match read_ranges(alloc, words) {
-        Ok(ranges) => Ok(Built {
-            alloc,
-            test: Test::Ranges(ranges),
-        }),
+        Ok(ranges) => Ok(Test::Ranges(ranges)),
         Err(NoMemory) => Err(BuildFault::NoMemory),
     }
 }
@@ -141,7 +169,7 @@ fn build_ranges(alloc: Global, words: &Seq<Bytes>) -> Result<Built, BuildFault>
 /// What a built operator finds in a value. `argument` is its expanded text, which the kinds with a
 /// macro compare with.
 pub fn holds(built: &Built, argument: &[u8], value: &[u8]) -> Result<Hit, NoMemory>
-    ensures { IfOk result (λ hit. groups_of hit ≡ built_hit built.now argument.now value.now) }
+    ensures { IfOk result (λ found. groups_of found ≡ hit built.now argument.now value.now) }
 {
     match &built.test {
         Test::Pattern(regex) => match texts(built.alloc, regex, value)? {
@@ -215,18 +243,4 @@ fn has(text: &[u8], needle: &[u8]) -> bool
     ensures { result ≡ has text.now needle.now }
 {
     place(text, needle).is_some()
-}
-
-impl Selector for Built {
-    ghost use Rattle.std.specs.Prelude.{[], is_some};
-    ghost use Rattle.sec_ops.specs.Hits.{built_hit};
-
-    ghost meaning = { λ built name. is_some (built_hit built [] name) };
-
-    fn selects(&self, name: &[u8]) -> Result<bool, NoMemory> {
-        match holds(self, &[], name)? {
-            Hit::No => Ok(false),
-            Hit::Yes { .. } => Ok(true),
-        }
-    }
 }

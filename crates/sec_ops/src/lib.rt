@@ -8,8 +8,11 @@ mod numbers;
 mod pattern;
 mod phrases;
 mod ranges;
+mod selectors;
 #[cfg(test)]
 mod tests;
 
 pub use built::{BuildFault, Built, Hit, build, holds};
 pub use laws::phrases_end_first;
+pub use numbers::number;
+pub use selectors::NamePattern;

@@ -11,8 +11,9 @@ pub(crate) fn order_of(argument: &[u8], value: &[u8]) -> Ordering
     number(value).cmp(&number(argument))
 }
 
-/// The number of a text, kept within `i64`.
-pub(crate) fn number(text: &[u8]) -> i64
+/// The number of a text: at most one sign and then digits, behind the whitespace at its front, and 0
+/// where there is none. What is beyond `i64` is its nearest end.
+pub fn number(text: &[u8]) -> i64
     ensures { result ≡ number text.now }
 {
     match behind_whitespace(text) {

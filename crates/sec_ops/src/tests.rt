@@ -1,4 +1,4 @@
-use crate::{BuildFault, Built, Hit, build, holds, phrases_end_first};
+use crate::{BuildFault, Built, Hit, NamePattern, build, holds, number, phrases_end_first};
 use sec_ast::{Op, OpKind, Part, Selector};
 use std::alloc::Global;
 use std::test::Fail;
@@ -75,10 +75,10 @@ fn answers(
 }
 
 fn is_selected(alloc: Global, pattern: &[u8], name: &[u8]) -> Result<bool, NoMemory> {
-    let Ok(built) = built(alloc, OpKind::Rx, pattern, &[]) else {
+    let Ok(pattern) = NamePattern::read(alloc, pattern) else {
         return Err(NoMemory);
     };
-    built.selects(name)
+    pattern.selects(name)
 }
 
 // What is found was worked out by hand and by a regular expression of another language.
@@ -454,7 +454,17 @@ fn addresses_and_ranges(rt: HostRuntime) -> Result<(), Fail> {
 #[test]
 fn names_that_a_pattern_selects(rt: HostRuntime) -> Result<(), Fail> {
     let alloc = rt.alloc();
-    assert!(rt; is_selected(alloc, b"(?i)__utm", b"x__UTMz")?);
-    assert!(rt; !is_selected(alloc, b"(?i)__utm", b"_utm")?);
+    assert!(rt; is_selected(alloc, b"__utm", b"x__UTMz")?);
+    assert!(rt; is_selected(alloc, b"^A.b$", b"a\nB")?);
+    assert!(rt; !is_selected(alloc, b"__utm", b"_utm")?);
+    let refused = NamePattern::read(alloc, b"(");
+    assert!(rt; matches!(refused, Err(BuildFault::BadPattern)));
+    Ok(())
+}
+
+#[test]
+fn numbers_of_texts(rt: HostRuntime) -> Result<(), Fail> {
+    assert_eq!(rt; number(b" \x0b-7x"), -7);
+    assert_eq!(rt; number(b"99999999999999999999"), i64::MAX);
     Ok(())
 }

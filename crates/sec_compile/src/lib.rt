@@ -1,0 +1,12 @@
+//! A rule set: a listing whose operators and name patterns are built once, before any request.
+#![tactic(auto)]
+
+mod fault;
+mod links;
+mod ruleset;
+#[cfg(test)]
+mod tests;
+
+pub use fault::CompileFault;
+pub use links::{BuiltLink, build_items};
+pub use ruleset::{Ruleset, compile};
