@@ -1,0 +1,3 @@
+pub mod Basename
+pub mod Puts
+pub mod Takes

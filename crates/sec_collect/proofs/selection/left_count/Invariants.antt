@@ -1,0 +1,14 @@
+use Rattle.std.proofs.Common.{◌≡◌, ◌+◌, length}
+use Rattle.std.specs.Prelude.{filter}
+use Rattle.std.specs.List.{zip}
+use Rattle.sec_collect.specs.Selection.{keeps}
+use Rattle.sec_collect.specs.Lent.{lent}
+use Rattle.sec_collect.proofs.selection.left_count.Given as goal
+
+abbrev pub invariant-loop-name : goal.invariant-loop-name
+invariant-loop-name g l =
+    let test = keeps g.M.Selector.meaning (zip l.all.targets.now l.all.patterns.now) l.all.removed.now (l.target, l.pattern) in
+    l.count + length (filter (λ r. test r.name) (lent l.rest)) ≡ length (filter (λ r. test r.name) (lent l.rows))
+
+abbrev pub decreases-loop-name : goal.decreases-loop-name
+decreases-loop-name g l = length (lent l.rest)

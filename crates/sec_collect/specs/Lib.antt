@@ -1,0 +1,12 @@
+pub mod Row
+pub mod Held
+pub mod Request
+pub mod Body
+pub mod Captures
+pub mod Response
+pub mod Rows
+pub mod Variables
+pub mod Selection
+pub mod Expansion
+pub mod Lent
+pub mod Kept

@@ -1,0 +1,17 @@
+-- The variables of TX. Their names are kept in lower case.
+use Rattle.std.specs.Prelude.{ℕ, ◌+◌, cond, not, List, [], ◌∷◌, map, filter, length, nat_le}
+use Rattle.std.specs.Char.{to_ascii_lowercase}
+use Rattle.web_parts.specs.declared.row.NameValue.{NameValue}
+use Rattle.sec_collect.specs.Row.{row, is_named, size_of}
+
+-- the value takes the place of the one under that name, or stands at the end
+abbrev pub put : List ℕ → List ℕ → List NameValue → List NameValue
+put name value [] = row (map to_ascii_lowercase name) value ∷ []
+put name value (r ∷ tx) = cond (is_named name r) (record r { value = value } ∷ tx) (r ∷ put name value tx)
+
+abbrev pub without : List ℕ → List NameValue → List NameValue
+without name tx = filter (λ r. not (is_named name r)) tx
+
+-- a put after which names and values would have more than 65536 bytes changes nothing
+abbrev pub put_within : List ℕ → List ℕ → List NameValue → List NameValue
+put_within name value tx = cond (nat_le (size_of (without name tx) + (length name + length value)) 65536) (put name value tx) tx

@@ -1,0 +1,29 @@
+//! The rows of a transaction: what each variable of the rule language holds, which of its values a
+//! rule looks at, and macros with values in the places of their references.
+#![tactic(auto)]
+
+mod body;
+mod captures;
+mod expansion;
+mod parts;
+mod pieces;
+mod request;
+mod row_ref;
+mod rows;
+mod selection;
+mod sizes;
+#[cfg(test)]
+mod tests;
+mod texts;
+mod variables;
+mod vars;
+
+pub use captures::captured_rows;
+pub use expansion::expand;
+pub use parts::{AddedResponse, OpenedBody};
+pub use request::value_named;
+pub use row_ref::RowRef;
+pub use rows::Rows;
+pub use selection::{Sought, select};
+pub use variables::{delete_variable, put_variable};
+pub use vars::Vars;

@@ -1,0 +1,357 @@
+ghost use Rattle.std.specs.Prelude.{◌≡◌, ◌++◌, ◌∷◌, [], cond, None, Some, IfOk, OnOk, OnErr};
+ghost use Rattle.std.specs.Option.{option_map};
+ghost use Rattle.sec_ast.specs.declared.settings.Processor.TheVariants.{Plain};
+ghost use Rattle.sec_collect.specs.Body.{chosen_processor, flag_text, is_longer, left_of, posted, processor_of};
+ghost use Rattle.sec_collect.specs.Held.{Held};
+ghost use Rattle.sec_collect.specs.Lent.{lent};
+ghost use Rattle.sec_collect.specs.Response.{content_type, response_body};
+ghost use Rattle.sec_collect.specs.Row.{optional, row, single, value_named};
+ghost use Rattle.sec_collect.specs.Captures.{captured_rows};
+ghost use Rattle.sec_collect.specs.Rows.{last_matched, rows_of};
+ghost use Rattle.sec_collect.specs.Variables.{put_within, without};
+
+use crate::body::{chosen, flag_text, is_longer, left_of, posted, sizes_text};
+use crate::captures::captured_rows;
+use crate::request::{
+    basename, content_type, digits, length_text, protocol_text, server_name, value_named,
+};
+use crate::rows::optional;
+use crate::texts::RequestTexts;
+use crate::{AddedResponse, OpenedBody, Rows, delete_variable, put_variable};
+use sec_ast::{Processor, Var};
+use std::alloc::Global;
+use std::marker::Model;
+use waf_plain::{Bytes, NoMemory, Seq};
+use web_parts::{NameValue, Request, Response, argument_rows, cookie_rows, header_rows};
+
+/// What the variables of a transaction are made from, with their rows kept ready: to lend the rows of a
+/// variable takes neither memory nor a pass over them.
+#[derive(Drop)]
+pub struct Vars {
+    request: Request,
+    processor: Processor,
+    body: Option<OpenedBody>,
+    response: Option<AddedResponse>,
+    tx: Seq<NameValue>,
+    captured: Seq<NameValue>,
+    matched: Seq<NameValue>,
+    // Made from these:
+    texts: RequestTexts,
+    query_arguments: Seq<NameValue>,
+    headers: Seq<NameValue>,
+    cookies: Seq<NameValue>,
+    posted: Seq<NameValue>,
+    body_length: Option<Bytes>,
+    arguments_size: Bytes,
+    status: Option<Bytes>,
+    response_protocol: Option<Bytes>,
+    response_length: Option<Bytes>,
+    response_headers: Seq<NameValue>,
+}
+
+impl Model for Vars {
+    ghost use Rattle.sec_collect.specs.Held.{Held};
+
+    ghost Value = { Held };
+
+    ghost use Rattle.sec_collect.specs.Kept.{held_by, AreKept};
+
+    ghost view = { held_by };
+
+    ghost invariant = { AreKept };
+}
+
+impl Vars {
+    /// The variables of a request whose body is not opened yet.
+    pub fn new(alloc: Global, request: Request) -> Result<Vars, NoMemory>
+        ensures { IfOk result (λ vars. vars ≡ record { request = request; processor = Plain; body = None; response = None; tx = []; captured = []; matched = [] }) }
+    {
+        let texts = RequestTexts::new(alloc, &request)?;
+        let query_arguments = argument_rows(alloc, request.query.as_slice())?;
+        let headers = header_rows(alloc, request.headers.as_slice())?;
+        let cookies = cookie_rows(alloc, &headers)?;
+        let posted = Seq::new(alloc);
+        let arguments_size = sizes_text(alloc, &query_arguments, &posted)?;
+        Ok(Vars {
+            request,
+            processor: Processor::Plain,
+            body: None,
+            response: None,
+            tx: Seq::new(alloc),
+            captured: Seq::new(alloc),
+            matched: Seq::new(alloc),
+            texts,
+            query_arguments,
+            headers,
+            cookies,
+            posted,
+            body_length: None,
+            arguments_size,
+            status: None,
+            response_protocol: None,
+            response_length: None,
+            response_headers: Seq::new(alloc),
+        })
+    }
+
+    /// The rows of a variable, in order.
+    #[tactic(auto, unfolding(crate::specs::Rows::rows_of))]
+    pub fn rows(&self, var: Var) -> Rows<'_>
+        ensures { lent result ≡ rows_of var self.now }
+    {
+        match var {
+            Var::RemoteAddr => Rows::One(self.texts.source.as_slice()),
+            Var::RemotePort => Rows::One(self.texts.source_port.as_slice()),
+            Var::ServerAddr => Rows::One(self.texts.destination.as_slice()),
+            Var::ServerPort => Rows::One(self.texts.destination_port.as_slice()),
+            Var::ServerName => Rows::One(server_name(self.headers.as_slice())),
+            Var::UniqueId => Rows::One(self.request.id.as_slice()),
+            Var::RequestMethod => Rows::One(self.request.method.as_slice()),
+            Var::RequestUri => Rows::One(self.texts.uri.as_slice()),
+            Var::RequestUriRaw => Rows::One(self.texts.uri.as_slice()),
+            Var::RequestFilename => Rows::One(self.request.path.as_slice()),
+            Var::RequestBasename => Rows::One(basename(self.request.path.as_slice())),
+            Var::RequestLine => Rows::One(self.texts.line.as_slice()),
+            Var::RequestProtocol => Rows::One(self.texts.protocol.as_slice()),
+            Var::QueryString => Rows::One(self.request.query.as_slice()),
+            Var::RequestBody => self.body_rows(),
+            Var::RequestBodyLength => optional(&self.body_length),
+            Var::ReqbodyProcessor => Rows::One(self.processor().name()),
+            Var::ReqbodyError => Rows::One(b"0"),
+            Var::MultipartStrictError => Rows::One(b"0"),
+            Var::InboundDataError => Rows::One(self.inbound_error()),
+            Var::ArgsCombinedSize => Rows::One(self.arguments_size.as_slice()),
+            Var::FilesCombinedSize => Rows::One(b"0"),
+            Var::ResponseStatus => optional(&self.status),
+            Var::ResponseProtocol => optional(&self.response_protocol),
+            Var::ResponseBody => self.response_body_rows(),
+            Var::ResponseContentLength => optional(&self.response_length),
+            Var::ResponseContentType => self.content_type_rows(),
+            Var::OutboundDataError => Rows::One(b"0"),
+            Var::MatchedVar => self.matched_value_rows(),
+            Var::MatchedVarName => self.matched_name_rows(),
+            Var::Args => Rows::Pairs(self.query_arguments.as_slice(), self.posted.as_slice()),
+            Var::ArgsGet => Rows::Pairs(&[], self.query_arguments.as_slice()),
+            Var::ArgsPost => Rows::Pairs(&[], self.posted.as_slice()),
+            Var::ArgsNames => Rows::Names(self.query_arguments.as_slice(), self.posted.as_slice()),
+            Var::ArgsGetNames => Rows::Names(&[], self.query_arguments.as_slice()),
+            Var::ArgsPostNames => Rows::Names(&[], self.posted.as_slice()),
+            Var::RequestHeaders => Rows::Pairs(&[], self.headers.as_slice()),
+            Var::RequestHeadersNames => Rows::Names(&[], self.headers.as_slice()),
+            Var::RequestCookies => Rows::Pairs(&[], self.cookies.as_slice()),
+            Var::RequestCookiesNames => Rows::Names(&[], self.cookies.as_slice()),
+            Var::Files => Rows::Nothing,
+            Var::FilesNames => Rows::Nothing,
+            Var::ResponseHeaders => Rows::Pairs(&[], self.response_headers.as_slice()),
+            Var::ResponseHeadersNames => Rows::Names(&[], self.response_headers.as_slice()),
+            Var::Tx => Rows::Pairs(self.captured.as_slice(), self.tx.as_slice()),
+            Var::MatchedVars => Rows::Pairs(&[], self.matched.as_slice()),
+            Var::MatchedVarsNames => Rows::Names(&[], self.matched.as_slice()),
+            Var::Xml => Rows::Nothing,
+        }
+    }
+
+    fn body_rows(&self) -> Rows<'_>
+        ensures { lent result ≡ optional (option_map (left_of self.now.request.body) self.now.body) }
+    {
+        match self.body {
+            Some(opened) => Rows::One(left_of(self.request.body.as_slice(), opened)),
+            None => Rows::Nothing,
+        }
+    }
+
+    fn inbound_error(&self) -> &[u8]
+        ensures { result.now ≡ flag_text (is_longer self.now.request.body self.now.body) }
+    {
+        flag_text(is_longer(self.request.body.as_slice(), self.body))
+    }
+
+    fn response_body_rows(&self) -> Rows<'_>
+        ensures { lent result ≡ response_body self.now.response }
+    {
+        match &self.response {
+            Some(added) => body_of(added),
+            None => Rows::Nothing,
+        }
+    }
+
+    fn content_type_rows(&self) -> Rows<'_>
+        ensures { lent result ≡ optional (option_map content_type self.now.response) }
+    {
+        match &self.response {
+            Some(_) => Rows::One(content_type(self.response_headers.as_slice())),
+            None => Rows::Nothing,
+        }
+    }
+
+    fn matched_value_rows(&self) -> Rows<'_>
+        ensures { lent result ≡ optional (option_map (λ r. r.value) (last_matched self.now)) }
+    {
+        match self.matched.as_slice().last() {
+            Some(row) => Rows::One(row.value.as_slice()),
+            None => Rows::Nothing,
+        }
+    }
+
+    fn matched_name_rows(&self) -> Rows<'_>
+        ensures { lent result ≡ optional (option_map (λ r. r.name) (last_matched self.now)) }
+    {
+        match self.matched.as_slice().last() {
+            Some(row) => Rows::One(row.name.as_slice()),
+            None => Rows::Nothing,
+        }
+    }
+
+    /// The request as it was given.
+    pub fn request(&self) -> &Request
+        ensures { result.now ≡ self.now.request }
+    {
+        &self.request
+    }
+
+    /// The processor that opens the body now, if it is opened: the one that was set last, or else the
+    /// one of the request's media type.
+    pub fn chosen_processor(&self) -> Processor
+        ensures { result ≡ chosen_processor self.now }
+    {
+        chosen(self.processor, self.headers.as_slice())
+    }
+
+    /// The processor of the opened body, and before that the one that would open it.
+    pub fn processor(&self) -> Processor
+        ensures { result ≡ processor_of self.now.body (chosen_processor self.now) }
+    {
+        match self.body {
+            Some(opened) => opened.processor,
+            None => self.chosen_processor(),
+        }
+    }
+
+    /// Sets the processor of the request's body. A body that is open already stays as it is.
+    pub fn set_processor(&mut self, processor: Processor)
+        ensures { self.new ≡ record self.old { processor = processor } }
+    {
+        self.processor = processor;
+    }
+
+    /// Opens the body of the request: from here on it has rows, made from its first `limit` bytes.
+    pub fn add_body(
+        &mut self,
+        alloc: Global,
+        processor: Processor,
+        limit: u64,
+    ) -> Result<(), NoMemory>
+        ensures ok { OnOk result (self.new ≡ record self.old { body = Some (record { processor = processor; limit = limit }) }) }
+        ensures err { OnErr result (self.new ≡ self.old) }
+    {
+        let opened = OpenedBody { processor, limit };
+        let posted = posted(alloc, self.request.body.as_slice(), opened)?;
+        let body_length = length_text(alloc, left_of(self.request.body.as_slice(), opened))?;
+        let arguments_size = sizes_text(alloc, &self.query_arguments, &posted)?;
+        self.body = Some(opened);
+        self.posted = posted;
+        self.body_length = Some(body_length);
+        self.arguments_size = arguments_size;
+        Ok(())
+    }
+
+    /// Adds the response; its body has a row where it is read.
+    pub fn add_response(
+        &mut self,
+        alloc: Global,
+        response: Response,
+        with_body: bool,
+    ) -> Result<(), NoMemory>
+        ensures ok { OnOk result (self.new ≡ record self.old { response = Some (record { response = response; with_body = with_body }) }) }
+        ensures err { OnErr result (self.new ≡ self.old) }
+    {
+        let status = digits(alloc, u64::from(response.status))?;
+        let response_protocol = protocol_text(alloc, response.version.as_slice())?;
+        let response_length = length_text(alloc, response.body.as_slice())?;
+        let response_headers = header_rows(alloc, response.headers.as_slice())?;
+        self.status = Some(status);
+        self.response_protocol = Some(response_protocol);
+        self.response_length = Some(response_length);
+        self.response_headers = response_headers;
+        self.response = Some(AddedResponse {
+            response,
+            with_body,
+        });
+        Ok(())
+    }
+
+    /// The value of a variable of TX, empty where there is none.
+    pub fn tx_value(&self, name: &[u8]) -> &[u8]
+        ensures { result.now ≡ value_named name.now self.entry.now.tx }
+    {
+        value_named(name, self.tx.as_slice())
+    }
+
+    /// Gives a variable of TX a value, as `put_variable` does.
+    pub fn set_tx(&mut self, alloc: Global, name: &[u8], value: &[u8]) -> Result<(), NoMemory>
+        ensures ok { OnOk result (self.new ≡ record self.old { tx = put_within name.now value.now self.old.tx }) }
+        ensures err { OnErr result (self.new ≡ self.old) }
+    {
+        put_variable(alloc, &mut self.tx, name, value)
+    }
+
+    /// Takes a variable of TX away, if it is there.
+    pub fn delete_tx(&mut self, alloc: Global, name: &[u8])
+        ensures { self.new ≡ record self.old { tx = without name.now self.old.tx } }
+    {
+        delete_variable(alloc, &mut self.tx, name)
+    }
+
+    /// Keeps the texts of the first ten groups of a match, in the place of those kept before.
+    pub fn capture(&mut self, alloc: Global, groups: &Seq<Option<Bytes>>) -> Result<(), NoMemory>
+        ensures ok { OnOk result (self.new ≡ record self.old { captured = captured_rows groups.now }) }
+        ensures err { OnErr result (self.new ≡ self.old) }
+    {
+        let captured = captured_rows(alloc, groups.as_slice())?;
+        self.captured = captured;
+        Ok(())
+    }
+
+    /// Puts other lists in the places of the variables of TX, the captured texts and the matched values,
+    /// as they were taken from another value of this type.
+    pub fn set_lists(
+        &mut self,
+        tx: Seq<NameValue>,
+        captured: Seq<NameValue>,
+        matched: Seq<NameValue>,
+    )
+        ensures { self.new ≡ record self.old { tx = tx; captured = captured; matched = matched } }
+    {
+        self.tx = tx;
+        self.captured = captured;
+        self.matched = matched;
+    }
+
+    /// Forgets all matched values.
+    pub fn forget_matched(&mut self, alloc: Global)
+        ensures { self.new ≡ record self.old { matched = [] } }
+    {
+        self.matched = Seq::new(alloc);
+    }
+
+    /// Adds a matched value under the full name of its row.
+    pub fn add_matched(&mut self, full_name: Bytes, value: Bytes) -> Result<(), NoMemory>
+        ensures ok { OnOk result (self.new ≡ record self.old { matched = self.old.matched ++ row full_name value ∷ [] }) }
+        ensures err { OnErr result (self.new ≡ self.old) }
+    {
+        self.matched.push(NameValue {
+            name: full_name,
+            value,
+        })
+    }
+}
+
+// The row of a response's body, where it is read.
+fn body_of(added: &AddedResponse) -> Rows<'_>
+    ensures { lent result ≡ cond added.now.with_body (single added.now.response.body) [] }
+{
+    if added.with_body {
+        return Rows::One(added.response.body.as_slice());
+    }
+    Rows::Nothing
+}
