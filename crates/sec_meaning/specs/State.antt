@@ -1,0 +1,6 @@
+-- The part of a state that rows are made from.
+use Rattle.sec_collect.specs.Held.{Held}
+use Rattle.sec_meaning.specs.declared.state.PlainState.{PlainState}
+
+abbrev pub held : PlainState → Held
+held s = record { request = s.request; processor = s.processor; body = s.body; response = s.response; tx = s.tx; captured = s.captured; matched = s.matched }

@@ -1,0 +1,146 @@
+ghost use Rattle.std.specs.Prelude.{◌≡◌, IfOk};
+
+use sec_ast::{Engine, LogLine, Processor, Verdict};
+use sec_collect::{AddedResponse, OpenedBody};
+use std::alloc::AllocError;
+use waf_plain::{Bytes, Seq};
+use web_parts::{NameValue, Request};
+
+/// Rules that are passed over for the rest of a transaction.
+#[derive(Debug, PartialEq, Drop)]
+pub enum Removed {
+    /// Those with these identifiers, the first and the last among them.
+    Ids(u32, u32),
+    /// Those that have this tag.
+    Tag(Bytes),
+}
+
+impl Clone for Removed {
+    ghost is_clone = { λ a b. b ≡ a };
+
+    fn clone(&self) -> Result<Removed, AllocError> {
+        match self {
+            Removed::Ids(first, last) => Ok(Removed::Ids(*first, *last)),
+            Removed::Tag(tag) => Ok(Removed::Tag(tag.clone()?)),
+        }
+    }
+}
+
+/// A tested value in which an operator found something, and the texts of the groups, none for a group
+/// that took no part.
+#[derive(Debug, Drop)]
+pub struct Found {
+    pub value: Bytes,
+    pub groups: Seq<Option<Bytes>>,
+}
+
+/// A row that a link matched: its full name, its matched value, and the texts of the groups of the hit,
+/// none for a group that took no part.
+#[derive(Debug, Drop)]
+pub struct Matched {
+    pub name: Bytes,
+    pub value: Bytes,
+    pub groups: Seq<Option<Bytes>>,
+}
+
+/// The state of a transaction.
+#[derive(Debug, Drop)]
+pub struct PlainState {
+    pub engine: Engine,
+    /// Whether the request's body is read, and the response's.
+    pub request_body: bool,
+    pub response_body: bool,
+    /// The processor that `ctl` chose, `Plain` where none did.
+    pub processor: Processor,
+    pub request: Request,
+    /// The request's body, once it is opened.
+    pub body: Option<OpenedBody>,
+    pub response: Option<AddedResponse>,
+    /// The variables of TX, in the order in which they were first put.
+    pub tx: Seq<NameValue>,
+    /// The captured texts, named by the numbers of their groups.
+    pub captured: Seq<NameValue>,
+    /// The matched values of the last link that held, under their full names.
+    pub matched: Seq<NameValue>,
+    pub removed_rules: Seq<Removed>,
+    /// Phases with a lower number are jumped over.
+    pub next_phase: u8,
+    pub verdict: Option<Verdict>,
+    pub lines: Seq<LogLine>,
+}
+
+impl Clone for PlainState {
+    ghost is_clone = { λ a b. b ≡ a };
+
+    fn clone(&self) -> Result<PlainState, AllocError> {
+        let request = self.request.clone()?;
+        let response = copy_response(&self.response)?;
+        let tx = self.tx.clone()?;
+        let captured = self.captured.clone()?;
+        let matched = self.matched.clone()?;
+        let removed_rules = self.removed_rules.clone()?;
+        let verdict = self.verdict.clone()?;
+        let lines = self.lines.clone()?;
+        Ok(PlainState {
+            engine: self.engine,
+            request_body: self.request_body,
+            response_body: self.response_body,
+            processor: self.processor,
+            request,
+            body: self.body,
+            response,
+            tx,
+            captured,
+            matched,
+            removed_rules,
+            next_phase: self.next_phase,
+            verdict,
+            lines,
+        })
+    }
+}
+
+fn copy_response(response: &Option<AddedResponse>) -> Result<Option<AddedResponse>, AllocError>
+    ensures { IfOk result (λ copy. copy ≡ response.now) }
+{
+    match response {
+        None => Ok(None),
+        Some(added) => Ok(Some(added.clone()?)),
+    }
+}
+
+/// Where a phase goes on after a rule: with the next one; behind that many further ones of the phase;
+/// behind a marker; nowhere; nowhere, and with phase 3 or phase 5 next; or it interrupts.
+#[derive(Debug, Drop)]
+pub enum Flow {
+    Next,
+    Skip(u32),
+    SkipTo(Bytes),
+    EndPhase,
+    EndTo3,
+    EndTo5,
+    Interrupt(Verdict),
+}
+
+/// Which items a phase passes over: none, that many of its rules, or all up to a marker.
+#[derive(Debug, Drop)]
+pub enum Passing {
+    Looking,
+    Skipping(u32),
+    Until(Bytes),
+}
+
+/// After an item a phase goes on, or is over with its verdict.
+#[derive(Debug, Drop)]
+pub enum After {
+    GoOn(Passing),
+    End(Option<Verdict>),
+}
+
+/// What a transaction comes to: a verdict on the request, one on the response, and the log lines.
+#[derive(Debug, PartialEq, Drop)]
+pub struct Judged {
+    pub first: Option<Verdict>,
+    pub second: Option<Verdict>,
+    pub lines: Seq<LogLine>,
+}
