@@ -1,0 +1,10 @@
+use Rattle.std.proofs.Common.{◌≡◌, drop, map}
+use Rattle.sec_compile.specs.Links.{built_link}
+use Rattle.sec_meaning.specs.Links.{after_links}
+use Rattle.sec_eval.proofs.links.after_links.Given as goal
+
+abbrev pub invariant-loop-link : goal.invariant-loop-link
+invariant-loop-link l = record {
+  rest : l.rest ≡ map built_link (drop l.link-index l.links);
+  left : after_links (drop l.link-index l.links) l.state ≡ after_links l.links l.fn.state;
+}

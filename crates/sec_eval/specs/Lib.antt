@@ -1,0 +1,6 @@
+pub mod Text
+pub mod Search
+pub mod Matching
+pub mod Seen
+pub mod Counting
+pub mod Jumps

@@ -1,0 +1,247 @@
+ghost use Rattle.std.specs.Prelude.{◌≡◌, ◌++◌, ◌∷◌, [], filter, length, map, IfOk, OnOk};
+ghost use Rattle.std.specs.List.{zip};
+ghost use Rattle.sec_collect.specs.Lent.{lent};
+ghost use Rattle.sec_collect.specs.Selection.{count_row, full_name, keeps, selection, value_row, values_of};
+ghost use Rattle.sec_compile.specs.Links.{built_link};
+ghost use Rattle.sec_eval.specs.Matching.{matched_of, matches_in, row_of};
+ghost use Rattle.sec_eval.specs.Text.{text_of};
+ghost use Rattle.sec_meaning.specs.Values.{match_of, matched_as};
+ghost use Rattle.sec_ops.specs.Selectors.{is_matched};
+
+use crate::search::{Search, find_hit};
+use crate::text::{Text, expanded};
+use sec_ast::{Link, Target, Var};
+use sec_collect::{RowRef, Rows, Sought, Vars};
+use sec_compile::BuiltLink;
+use sec_meaning::Matched;
+use sec_ops::{Built, NamePattern};
+use std::alloc::Global;
+use waf_plain::{Bytes, NoMemory, Seq};
+
+/// A value that a link looks at, lent.
+#[derive(Clone, Copy, Debug)]
+pub(crate) struct LentRow<'a> {
+    pub var: Var,
+    pub name: &'a [u8],
+    pub value: &'a [u8],
+    pub counted: bool,
+}
+
+/// What a link asks of each value: its operator, with the argument expanded.
+#[derive(Drop)]
+pub(crate) struct Question<'a> {
+    pub link: &'a Link,
+    pub op: &'a Built,
+    pub argument: &'a [u8],
+}
+
+/// The rows that a link matches, in order. Rows are lent, and only those that match are copied.
+pub(crate) fn matches<'a>(
+    alloc: Global,
+    vars: &Vars,
+    link: &'a Link,
+    built: &'a BuiltLink,
+) -> Result<Seq<Matched>, NoMemory>
+    requires { built.now ≡ built_link link.now }
+    ensures { IfOk result (λ rows. rows ≡ matches_in vars.now link.entry.now) }
+{
+    let argument = expanded(alloc, vars, &link.op.text)?;
+    let question = Question {
+        link,
+        op: &built.op,
+        argument: argument.as_slice(),
+    };
+    let sought = Sought {
+        targets: link.targets.as_slice(),
+        patterns: built.patterns.as_slice(),
+        removed: &[],
+    };
+    matches_of(alloc, vars, &question, &sought)
+}
+
+// The rows that are matched of what targets select.
+fn matches_of(
+    alloc: Global,
+    vars: &Vars,
+    question: &Question<'_>,
+    sought: &Sought<'_, NamePattern>,
+) -> Result<Seq<Matched>, NoMemory>
+    requires { question.now.op.now ≡ question.now.link.now.op }
+    ensures { IfOk result (λ rows. rows ≡ matched_of question.now (selection is_matched (zip sought.now.targets.now sought.now.patterns.now) sought.now.removed.now vars.now)) }
+{
+    let mut out = Seq::new(alloc);
+    let mut rest = sought.patterns;
+    for target in sought.targets {
+        let Some((pattern, behind)) = rest.split_first() else {
+            return Ok(out);
+        };
+        add_matches(alloc, vars, question, sought, target, pattern, &mut out)?;
+        rest = behind;
+    }
+    Ok(out)
+}
+
+// Adds what is matched of one target.
+fn add_matches(
+    alloc: Global,
+    vars: &Vars,
+    question: &Question<'_>,
+    sought: &Sought<'_, NamePattern>,
+    target: &Target,
+    pattern: &Option<NamePattern>,
+    out: &mut Seq<Matched>,
+) -> Result<(), NoMemory>
+    requires { question.now.op.now ≡ question.now.link.now.op }
+    ensures { OnOk result (out.new ≡ out.old ++ matched_of question.now (values_of is_matched (zip sought.now.targets.now sought.now.patterns.now) sought.now.removed.now vars.now (target.now, pattern.now))) }
+{
+    if target.exclude {
+        return Ok(());
+    }
+    let rows = vars.rows(target.var);
+    if target.count {
+        let count = left_count(sought, target, pattern, rows)?;
+        return add_count(alloc, question, target, count, out);
+    }
+    add_rows(alloc, question, sought, target, pattern, rows, out)
+}
+
+// How many rows a target leaves.
+fn left_count(
+    sought: &Sought<'_, NamePattern>,
+    target: &Target,
+    pattern: &Option<NamePattern>,
+    rows: Rows<'_>,
+) -> Result<u64, NoMemory>
+    ensures { IfOk result (λ count. count ≡ length (filter (λ r. keeps is_matched (zip sought.now.targets.now sought.now.patterns.now) sought.now.removed.now (target.now, pattern.now) r.name) (lent rows.entry))) }
+{
+    let mut count: u64 = 0;
+    let mut rest = rows;
+    while let Some((name, _, behind)) = rest.split_first() {
+        if sought.keeps(target, pattern, name)? {
+            count = count.checked_add(1).ok_or(NoMemory)?;
+        }
+        rest = behind;
+    }
+    Ok(count)
+}
+
+// Adds the number of a target's rows, where that is matched.
+fn add_count(
+    alloc: Global,
+    question: &Question<'_>,
+    target: &Target,
+    count: u64,
+    out: &mut Seq<Matched>,
+) -> Result<(), NoMemory>
+    requires { question.now.op.now ≡ question.now.link.now.op }
+    ensures { OnOk result (out.new ≡ out.old ++ matched_of question.now (count_row target.now count ∷ [])) }
+{
+    let counted = RowRef::of_count(alloc, target, count)?;
+    let row = LentRow {
+        var: counted.var,
+        name: counted.name.as_slice(),
+        value: counted.value.as_slice(),
+        counted: true,
+    };
+    add_match(alloc, question, row, out)
+}
+
+// Adds the rows that a target leaves, where they are matched.
+fn add_rows(
+    alloc: Global,
+    question: &Question<'_>,
+    sought: &Sought<'_, NamePattern>,
+    target: &Target,
+    pattern: &Option<NamePattern>,
+    rows: Rows<'_>,
+    out: &mut Seq<Matched>,
+) -> Result<(), NoMemory>
+    requires { question.now.op.now ≡ question.now.link.now.op }
+    ensures { OnOk result (out.new ≡ out.old ++ matched_of question.now (map (value_row target.now.var) (filter (λ r. keeps is_matched (zip sought.now.targets.now sought.now.patterns.now) sought.now.removed.now (target.now, pattern.now) r.name) (lent rows.entry)))) }
+{
+    let mut rest = rows;
+    while let Some((name, value, behind)) = rest.split_first() {
+        if sought.keeps(target, pattern, name)? {
+            let row = LentRow {
+                var: target.var,
+                name,
+                value,
+                counted: false,
+            };
+            add_match(alloc, question, row, out)?;
+        }
+        rest = behind;
+    }
+    Ok(())
+}
+
+// Adds a row, where it is matched.
+fn add_match(
+    alloc: Global,
+    question: &Question<'_>,
+    row: LentRow<'_>,
+    out: &mut Seq<Matched>,
+) -> Result<(), NoMemory>
+    requires { question.now.op.now ≡ question.now.link.now.op }
+    ensures { OnOk result (out.new ≡ out.old ++ matched_of question.now (row_of row.entry ∷ [])) }
+{
+    match match_of(alloc, question, row)? {
+        Some(matched) => out.push(matched),
+        None => Ok(()),
+    }
+}
+
+fn match_of(
+    alloc: Global,
+    question: &Question<'_>,
+    row: LentRow<'_>,
+) -> Result<Option<Matched>, NoMemory>
+    requires { question.now.op.now ≡ question.now.link.now.op }
+    ensures { IfOk result (λ matched. matched ≡ match_of question.now.link.now question.now.argument.now (row_of row.entry)) }
+{
+    let link = question.link;
+    match find_hit(alloc, link, question.op, question.argument, row.value)? {
+        Search::Found { value, groups } => {
+            if link.negated {
+                return Ok(None);
+            }
+            Ok(Some(matched_as(alloc, row, value, groups)?))
+        }
+        Search::Missed(value) => {
+            if link.negated {
+                return Ok(Some(matched_as(alloc, row, value, Seq::new(alloc))?));
+            }
+            Ok(None)
+        }
+    }
+}
+
+fn matched_as(
+    alloc: Global,
+    row: LentRow<'_>,
+    value: Text<'_>,
+    groups: Seq<Option<Bytes>>,
+) -> Result<Matched, NoMemory>
+    ensures { IfOk result (λ matched. matched ≡ matched_as (row_of row.entry) (text_of value.entry) groups) }
+{
+    let name = full_name(alloc, row)?;
+    let value = value.into_bytes(alloc)?;
+    Ok(Matched {
+        name,
+        value,
+        groups,
+    })
+}
+
+fn full_name(alloc: Global, row: LentRow<'_>) -> Result<Bytes, NoMemory>
+    ensures { IfOk result (λ name. name ≡ full_name (row_of row.entry)) }
+{
+    let name = Bytes::copy(alloc, row.name)?;
+    let row = RowRef {
+        var: row.var,
+        name,
+        value: Bytes::new(alloc),
+        counted: row.counted,
+    };
+    row.full_name(alloc)
+}

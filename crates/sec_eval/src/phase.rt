@@ -1,0 +1,234 @@
+ghost use Rattle.std.specs.Prelude.{◌≡◌, ◌+◌, ◌≤◌, ◌∷◌, List, ℕ, map, IfOk, OnOk};
+ghost use Rattle.sec_ast.specs.declared.listing.Item.{Item as TheItem};
+ghost use Rattle.sec_collect.specs.Body.{is_longer};
+ghost use Rattle.sec_compile.specs.Links.{built_link, built_links};
+ghost use Rattle.sec_eval.specs.Counting.{Continues, RunsTo, flow_by, rules_in};
+ghost use Rattle.sec_meaning.specs.declared.state.Passing.{Passing as ThePassing};
+ghost use Rattle.sec_meaning.specs.declared.state.PlainState.{PlainState as TheState};
+ghost use Rattle.sec_meaning.specs.Effect.{effect};
+ghost use Rattle.sec_meaning.specs.Phase.{Run, after, at_rule, follow, is_rejected, look, one_more, phase, walk, with_body};
+
+use crate::State;
+use crate::effect::effect;
+use sec_ast::{Item, Listing, Rule, Var, Verdict};
+use sec_collect::Vars;
+use sec_compile::{BuiltLink, Ruleset};
+use sec_meaning::{After, Flow as RuleFlow, Passing, at_marker, is_off, is_on, too_large};
+use std::alloc::Global;
+use std::sync::ledger::Ledger;
+use waf_plain::{NoMemory, Seq, Steps};
+
+/// How a phase ended: the transaction goes on, or is interrupted.
+#[derive(Debug, PartialEq, Drop)]
+pub enum Flow {
+    Goes,
+    Interrupted(Verdict),
+}
+
+fn follow(flow: RuleFlow, state: &mut State) -> Result<After, NoMemory>
+    ensures { IfOk result (λ then. (n : ℕ) (rest : ThePassing → TheState → Run) → Continues n (follow state.old flow rest) n (after then state.new rest)) }
+{
+    match flow {
+        RuleFlow::Next => Ok(After::GoOn(Passing::Looking)),
+        RuleFlow::Skip(count) => Ok(After::GoOn(Passing::Skipping(count))),
+        RuleFlow::SkipTo(label) => Ok(After::GoOn(Passing::Until(label))),
+        RuleFlow::EndPhase => Ok(After::End(None)),
+        RuleFlow::EndTo3 => {
+            state.set_next_phase(3);
+            Ok(After::End(None))
+        }
+        RuleFlow::EndTo5 => {
+            state.set_next_phase(5);
+            Ok(After::End(None))
+        }
+        RuleFlow::Interrupt(verdict) => {
+            state.interrupt(verdict.clone()?);
+            Ok(After::End(Some(verdict)))
+        }
+    }
+}
+
+// Looks at a rule: one step.
+fn look_at<L: Ledger>(
+    alloc: Global,
+    rule: &Rule,
+    built: &[BuiltLink],
+    state: &mut State,
+    steps: &mut Steps<L>,
+) -> Result<After, NoMemory>
+    requires { built.now ≡ map built_link rule.now.links }
+    ensures ok { IfOk result (λ then. (rest : ThePassing → TheState → Run) → Continues steps.old (one_more (follow (effect rule.now state.old).0 (effect rule.now state.old).1 rest)) steps.new (after then state.new rest)) }
+    ensures most { steps.new ≡ steps.old + 1 }
+{
+    steps.tick();
+    let flow = effect(alloc, rule, built, state)?;
+    follow(flow, state)
+}
+
+fn look<L: Ledger>(
+    alloc: Global,
+    rule: &Rule,
+    built: &[BuiltLink],
+    state: &mut State,
+    steps: &mut Steps<L>,
+) -> Result<After, NoMemory>
+    requires { built.now ≡ map built_link rule.now.links }
+    ensures ok { IfOk result (λ then. (rest : ThePassing → TheState → Run) → Continues steps.old (look rule.now state.old rest) steps.new (after then state.new rest)) }
+    ensures most { (rest : ThePassing → TheState → Run) → steps.new ≤ steps.old + (look rule.now state.old rest).looked }
+{
+    if is_off(state.engine()) {
+        return Ok(After::End(None));
+    }
+    if state.is_removed(rule) {
+        return Ok(After::GoOn(Passing::Looking));
+    }
+    look_at(alloc, rule, built, state, steps)
+}
+
+fn at_rule<L: Ledger>(
+    alloc: Global,
+    passing: Passing,
+    rule: &Rule,
+    built: &[BuiltLink],
+    state: &mut State,
+    steps: &mut Steps<L>,
+) -> Result<After, NoMemory>
+    requires { built.now ≡ map built_link rule.now.links }
+    ensures ok { IfOk result (λ then. (rest : ThePassing → TheState → Run) → Continues steps.old (at_rule passing rule.now state.old rest) steps.new (after then state.new rest)) }
+    ensures most { (rest : ThePassing → TheState → Run) → steps.new ≤ steps.old + (at_rule passing rule.now state.old rest).looked }
+{
+    match passing {
+        Passing::Looking => look(alloc, rule, built, state, steps),
+        Passing::Skipping(count) => {
+            if count == 0 {
+                return look(alloc, rule, built, state, steps);
+            }
+            Ok(After::GoOn(Passing::Skipping(count - 1)))
+        }
+        Passing::Until(label) => Ok(After::GoOn(Passing::Until(label))),
+    }
+}
+
+fn at_item<L: Ledger>(
+    alloc: Global,
+    number: u8,
+    item: &Item,
+    built: &Seq<BuiltLink>,
+    passing: Passing,
+    state: &mut State,
+    steps: &mut Steps<L>,
+) -> Result<After, NoMemory>
+    requires { built.now ≡ built_links item.now }
+    ensures ok { IfOk result (λ then. (left : List TheItem) → Continues steps.old (walk number (item.now ∷ left) passing state.old) steps.new (after then state.new (walk number left))) }
+    ensures most { (left : List TheItem) → steps.new ≤ steps.old + (walk number (item.now ∷ left) passing state.old).looked }
+{
+    match item {
+        Item::Marker(marker) => Ok(After::GoOn(at_marker(marker, passing))),
+        Item::Rule(rule) => {
+            if rule.phase == number {
+                return at_rule(alloc, passing, rule, built.as_slice(), state, steps);
+            }
+            Ok(After::GoOn(passing))
+        }
+    }
+}
+
+// The items of a listing for one phase, of which these were built.
+fn walk<L: Ledger>(
+    alloc: Global,
+    number: u8,
+    items: &[Item],
+    built: &[Seq<BuiltLink>],
+    state: &mut State,
+    steps: &mut Steps<L>,
+) -> Result<Flow, NoMemory>
+    requires { built.now ≡ map built_links items.now }
+    ensures ok { IfOk result (λ flow. RunsTo steps.old (walk number items.now Passing.Looking state.old) steps.new state.new flow) }
+    ensures most { steps.new ≤ steps.old + (walk number items.now Passing.Looking state.old).looked }
+{
+    let mut passing = Passing::Looking;
+    let mut rest = built;
+    for item in items {
+        let Some((links, behind)) = rest.split_first() else {
+            unreachable!()
+        };
+        match at_item(alloc, number, item, links, passing, state, steps)? {
+            After::GoOn(next) => passing = next,
+            After::End(Some(verdict)) => return Ok(Flow::Interrupted(verdict)),
+            After::End(None) => return Ok(Flow::Goes),
+        }
+        rest = behind;
+    }
+    Ok(Flow::Goes)
+}
+
+// Whether the body of the request is longer than the limit under which it was opened.
+fn is_longer(vars: &Vars) -> bool
+    ensures { result ≡ is_longer vars.now.request.body vars.now.body }
+{
+    match vars.rows(Var::InboundDataError).split_first() {
+        Some((_, flag, _)) => flag == b"1".as_slice(),
+        None => false,
+    }
+}
+
+fn is_rejected(listing: &Listing, state: &State) -> bool
+    ensures { result ≡ is_rejected listing.now state.now }
+{
+    listing.limit_reject && is_on(state.engine()) && is_longer(state.vars())
+}
+
+// Phase 2 with the body opened.
+fn with_body<L: Ledger>(
+    alloc: Global,
+    rules: &Ruleset,
+    state: &mut State,
+    steps: &mut Steps<L>,
+) -> Result<Flow, NoMemory>
+    ensures ok { IfOk result (λ flow. RunsTo steps.old (with_body rules.now state.old) steps.new state.new flow) }
+    ensures most { steps.new ≤ steps.old + (with_body rules.now state.old).looked }
+{
+    if is_rejected(rules.listing(), state) {
+        state.interrupt(too_large());
+        return Ok(Flow::Interrupted(too_large()));
+    }
+    walk(
+        alloc,
+        2,
+        rules.listing().items.as_slice(),
+        rules.built(),
+        state,
+        steps,
+    )
+}
+
+/// Runs the phase of that number over the state of a transaction, and says whether it interrupts. A
+/// step is a rule that is looked at. After `NoMemory` the state is only dropped.
+pub fn run_phase<L: Ledger>(
+    alloc: Global,
+    rules: &Ruleset,
+    number: u8,
+    state: &mut State,
+    steps: &mut Steps<L>,
+) -> Result<Flow, NoMemory>
+    ensures flow { IfOk result (λ flow. flow ≡ flow_by (phase rules.now number state.old).verdict) }
+    ensures state { OnOk result (state.new ≡ (phase rules.now number state.old).state) }
+    ensures steps { OnOk result (steps.new ≡ steps.old + (phase rules.now number state.old).looked) }
+    ensures most { steps.new ≤ steps.old + rules_in number rules.now.items }
+{
+    if number < state.next_phase() {
+        return Ok(Flow::Goes);
+    }
+    if number == 2 {
+        state.open_body(alloc, rules.listing())?;
+        return with_body(alloc, rules, state, steps);
+    }
+    walk(
+        alloc,
+        number,
+        rules.listing().items.as_slice(),
+        rules.built(),
+        state,
+        steps,
+    )
+}

@@ -1,0 +1,216 @@
+ghost use Rattle.std.specs.Prelude.{◌≡◌, ◌++◌, ◌∷◌, [], cond, Some, IfOk, OnOk};
+ghost use Rattle.sec_collect.specs.Body.{chosen_processor, is_longer};
+ghost use Rattle.sec_collect.specs.Captures.{captured_rows};
+ghost use Rattle.sec_collect.specs.Row.{row, value_named};
+ghost use Rattle.sec_collect.specs.Variables.{put_within, without};
+ghost use Rattle.sec_meaning.specs.Judgement.{answered, start};
+ghost use Rattle.sec_meaning.specs.Links.{control};
+ghost use Rattle.sec_meaning.specs.Phase.{is_removed, opened};
+ghost use Rattle.sec_meaning.specs.State.{held};
+
+use sec_ast::{Ctl, Engine, Listing, LogLine, Rule, Verdict};
+use sec_collect::Vars;
+use sec_compile::Ruleset;
+use sec_meaning::{Removed, is_named_by};
+use std::alloc::Global;
+use std::marker::Model;
+use std::mem;
+use waf_plain::{Bytes, NoMemory, Seq};
+use web_parts::{Request, Response};
+
+/// The state of a transaction between its phases. After `NoMemory` it is only dropped.
+#[derive(Drop)]
+pub struct State {
+    vars: Vars,
+    engine: Engine,
+    request_body: bool,
+    response_body: bool,
+    removed_rules: Seq<Removed>,
+    next_phase: u8,
+    verdict: Option<Verdict>,
+    lines: Seq<LogLine>,
+}
+
+impl Model for State {
+    ghost use Rattle.sec_meaning.specs.declared.state.PlainState.{PlainState};
+
+    ghost Value = { PlainState };
+
+    ghost use Rattle.sec_eval.specs.Seen.{seen};
+
+    ghost view = { seen };
+}
+
+impl State {
+    /// The state before phase 1.
+    pub fn start(alloc: Global, rules: &Ruleset, request: Request) -> Result<State, NoMemory>
+        ensures { IfOk result (λ state. state ≡ start rules.now request) }
+    {
+        let vars = Vars::new(alloc, request)?;
+        let listing = rules.listing();
+        Ok(State {
+            vars,
+            engine: listing.engine,
+            request_body: listing.request_body,
+            response_body: listing.response_body,
+            removed_rules: Seq::new(alloc),
+            next_phase: 1,
+            verdict: None,
+            lines: Seq::new(alloc),
+        })
+    }
+
+    /// Adds the response, before phase 3. Its body is read where that is on by now.
+    pub fn answer(&mut self, alloc: Global, response: Response) -> Result<(), NoMemory>
+        ensures { OnOk result (self.new ≡ answered response self.old) }
+    {
+        self.vars.add_response(alloc, response, self.response_body)
+    }
+
+    /// What rows are made from.
+    pub fn vars(&self) -> &Vars
+        ensures { result.now ≡ held self.now }
+    {
+        &self.vars
+    }
+
+    /// The request as it was given.
+    pub fn request(&self) -> &Request
+        ensures { result.now ≡ self.now.request }
+    {
+        self.vars.request()
+    }
+
+    /// The log lines so far, but for those that were taken.
+    pub fn lines(&self) -> &Seq<LogLine>
+        ensures { result.now ≡ self.now.lines }
+    {
+        &self.lines
+    }
+
+    /// Takes the log lines out.
+    pub fn take_lines(&mut self, alloc: Global) -> Seq<LogLine>
+        ensures taken { result ≡ self.old.lines }
+        ensures left { self.new ≡ record self.old { lines = [] } }
+    {
+        mem::replace(&mut self.lines, Seq::new(alloc))
+    }
+
+    pub(crate) fn engine(&self) -> Engine
+        ensures { result ≡ self.now.engine }
+    {
+        self.engine
+    }
+
+    pub(crate) fn next_phase(&self) -> u8
+        ensures { result ≡ self.now.next_phase }
+    {
+        self.next_phase
+    }
+
+    pub(crate) fn is_removed(&self, rule: &Rule) -> bool
+        ensures { result ≡ is_removed rule.now self.now }
+    {
+        self.removed_rules
+            .as_slice()
+            .iter()
+            .any(|removed| is_named_by(rule, removed))
+    }
+
+    pub(crate) fn set_next_phase(&mut self, number: u8)
+        ensures { self.new ≡ record self.old { next_phase = number } }
+    {
+        self.next_phase = number;
+    }
+
+    pub(crate) fn interrupt(&mut self, verdict: Verdict)
+        ensures { self.new ≡ record self.old { verdict = Some verdict } }
+    {
+        self.verdict = Some(verdict);
+    }
+
+    pub(crate) fn add_line(&mut self, line: LogLine) -> Result<(), NoMemory>
+        ensures { OnOk result (self.new ≡ record self.old { lines = self.old.lines ++ line ∷ [] }) }
+    {
+        self.lines.push(line)
+    }
+
+    /// Opens the request's body where it is read, before the rules of phase 2.
+    pub(crate) fn open_body(&mut self, alloc: Global, listing: &Listing) -> Result<(), NoMemory>
+        ensures { OnOk result (self.new ≡ opened listing.now self.old) }
+    {
+        if self.request_body {
+            let processor = self.vars.chosen_processor();
+            self.vars.add_body(alloc, processor, listing.request_limit)?;
+        }
+        Ok(())
+    }
+
+    pub(crate) fn set_tx(
+        &mut self,
+        alloc: Global,
+        name: &[u8],
+        value: &[u8],
+    ) -> Result<(), NoMemory>
+        ensures { OnOk result (self.new ≡ record self.old { tx = put_within name.now value.now self.old.tx }) }
+    {
+        self.vars.set_tx(alloc, name, value)
+    }
+
+    pub(crate) fn delete_tx(&mut self, alloc: Global, name: &[u8])
+        ensures { self.new ≡ record self.old { tx = without name.now self.old.tx } }
+    {
+        self.vars.delete_tx(alloc, name);
+    }
+
+    pub(crate) fn capture(
+        &mut self,
+        alloc: Global,
+        groups: &Seq<Option<Bytes>>,
+    ) -> Result<(), NoMemory>
+        ensures { OnOk result (self.new ≡ record self.old { captured = captured_rows groups.now }) }
+    {
+        self.vars.capture(alloc, groups)
+    }
+
+    pub(crate) fn forget_matched(&mut self, alloc: Global)
+        ensures { self.new ≡ record self.old { matched = [] } }
+    {
+        self.vars.forget_matched(alloc);
+    }
+
+    pub(crate) fn add_matched(&mut self, full_name: Bytes, value: Bytes) -> Result<(), NoMemory>
+        ensures { OnOk result (self.new ≡ record self.old { matched = self.old.matched ++ row full_name value ∷ [] }) }
+    {
+        self.vars.add_matched(full_name, value)
+    }
+
+    /// Does what a `ctl` says.
+    pub(crate) fn control(&mut self, ctl: &Ctl) -> Result<(), NoMemory>
+        ensures { OnOk result (self.new ≡ control self.old ctl.now) }
+    {
+        match ctl {
+            Ctl::Engine(engine) => {
+                self.engine = *engine;
+                Ok(())
+            }
+            Ctl::RequestBody(is_read) => {
+                self.request_body = *is_read;
+                Ok(())
+            }
+            Ctl::ResponseBody(is_read) => {
+                self.response_body = *is_read;
+                Ok(())
+            }
+            Ctl::Body(processor) => {
+                self.vars.set_processor(*processor);
+                Ok(())
+            }
+            Ctl::RemoveById(first, last) => self.removed_rules.push(Removed::Ids(*first, *last)),
+            Ctl::RemoveByTag(tag) => {
+                let tag = tag.clone()?;
+                self.removed_rules.push(Removed::Tag(tag))
+            }
+        }
+    }
+}
