@@ -1,0 +1,5 @@
+pub mod Choices
+pub mod Behind
+pub mod Stays
+pub mod NoRules
+pub mod Joins

@@ -1,0 +1,6 @@
+pub mod Lines
+pub mod Laws
+pub mod Later
+pub mod HalfView
+pub mod Standing
+pub mod Halves

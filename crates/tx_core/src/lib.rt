@@ -1,0 +1,14 @@
+//! A judgement that stops after phase 2 and goes on later, when the response is there or when none
+//! comes any more.
+#![tactic(auto)]
+
+mod half;
+mod laws;
+mod phases;
+#[cfg(test)]
+mod tests;
+
+pub use half::{Begun, Ended, Half, begin, finish, retire};
+pub use laws::{
+    judgements_come_in_halves, lines_stay_in_front, logging_may_be_empty, requests_stay,
+};

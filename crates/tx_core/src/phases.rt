@@ -1,0 +1,67 @@
+ghost use Rattle.std.specs.Prelude.{◌≡◌, ◌+◌, ◌≤◌, IfOk, OnOk};
+ghost use Rattle.sec_eval.specs.Counting.{rules_in};
+ghost use Rattle.sec_meaning.specs.Judgement.{two_phases};
+ghost use Rattle.sec_meaning.specs.Phase.{phase};
+ghost use Rattle.tx_core.specs.Later.{FollowsAs};
+
+use crate::Ended;
+use sec_ast::{LogLine, Verdict};
+use sec_compile::Ruleset;
+use sec_eval::{Flow, State, run_phase};
+use std::alloc::Global;
+use std::sync::ledger::Ledger;
+use waf_plain::{NoMemory, Seq, Steps};
+use web_parts::Response;
+
+/// Runs two phases, the second of them where the first does not interrupt.
+pub(crate) fn two_phases<L: Ledger>(
+    alloc: Global,
+    rules: &Ruleset,
+    one: u8,
+    other: u8,
+    state: &mut State,
+    steps: &mut Steps<L>,
+) -> Result<Option<Verdict>, NoMemory>
+    ensures verdict { IfOk result (λ verdict. verdict ≡ (two_phases rules.now one other state.old).verdict) }
+    ensures state { OnOk result (state.new ≡ (two_phases rules.now one other state.old).state) }
+    ensures most { steps.new ≤ steps.old + (rules_in one rules.now.items + rules_in other rules.now.items) }
+{
+    match run_phase(alloc, rules, one, state, steps)? {
+        Flow::Interrupted(verdict) => Ok(Some(verdict)),
+        Flow::Goes => match run_phase(alloc, rules, other, state, steps)? {
+            Flow::Interrupted(verdict) => Ok(Some(verdict)),
+            Flow::Goes => Ok(None),
+        },
+    }
+}
+
+/// Runs phase 5, which ends a transaction, and takes the lines that stand then.
+pub(crate) fn last_lines<L: Ledger>(
+    alloc: Global,
+    rules: &Ruleset,
+    state: &mut State,
+    steps: &mut Steps<L>,
+) -> Result<Seq<LogLine>, NoMemory>
+    ensures lines { IfOk result (λ lines. lines ≡ (phase rules.now 5 state.old).state.lines) }
+    ensures most { steps.new ≤ steps.old + rules_in 5 rules.now.items }
+{
+    run_phase(alloc, rules, 5, state, steps)?;
+    Ok(state.take_lines(alloc))
+}
+
+/// Runs phases 3 and 4 with the response, and phase 5 behind them.
+pub(crate) fn judge_response<L: Ledger>(
+    alloc: Global,
+    rules: &Ruleset,
+    response: Response,
+    state: &mut State,
+    steps: &mut Steps<L>,
+) -> Result<Ended, NoMemory>
+    ensures follows { IfOk result (λ ended. FollowsAs rules.now response state.old ended) }
+    ensures most { steps.new ≤ steps.old + (rules_in 3 rules.now.items + rules_in 4 rules.now.items + rules_in 5 rules.now.items) }
+{
+    state.answer(alloc, response)?;
+    let verdict = two_phases(alloc, rules, 3, 4, state, steps)?;
+    let lines = last_lines(alloc, rules, state, steps)?;
+    Ok(Ended { verdict, lines })
+}
