@@ -46,6 +46,15 @@ impl<R: Drop, P: Drop, T> Conn<R, P, T> {
         }
     }
 
+    /// Lets the connection go, and hands out the ticket that it holds, which is to be given back. After
+    /// Close it holds none.
+    pub fn let_go(self) -> Option<T>
+        ensures { option_to_list result ≡ held_at self.stage }
+    {
+        let Conn { stage, .. } = self;
+        ticket_in(stage)
+    }
+
     // No memory was found: what is held is let go, and the ticket is to be left.
     fn give_up(&mut self)
         requires open { is_open self.old.stage ≡ true }

@@ -96,6 +96,7 @@ impl<R, P, T> Conn<R, P, T> {
     pub fn take_leave(&mut self) -> T
         requires at { IsLeave self.old.broken self.old.stage }
         ensures next { (s : State R P T) → Stands self.old s → Stands self.new (served (Leave result) s) }
+        ensures stays { self.old.broken ≡ true → self.new.broken ≡ true }
         ensures fewer { calls_left self.new < calls_left self.old }
     {
         match mem::replace(&mut self.stage, Stage::Bytes) {

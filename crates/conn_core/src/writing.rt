@@ -1,4 +1,4 @@
-ghost use Rattle.std.specs.Prelude.{◌≡◌, ◌<◌};
+ghost use Rattle.std.specs.Prelude.{◌≡◌, ◌<◌, true};
 ghost use Rattle.conn_core.specs.Calls.{IsWrite, out_of};
 ghost use Rattle.conn_core.specs.Stands.{calls_left, served, Stands, State};
 ghost use Rattle.conn_core.specs.Trace.{Write};
@@ -23,6 +23,7 @@ impl<R, P, T> Conn<R, P, T> {
     pub fn written(&mut self)
         requires at { IsWrite self.old.broken self.old.stage }
         ensures next { (s : State R P T) → Stands self.old s → Stands self.new (served (Write (out_of self.old.stage)) s) }
+        ensures stays { self.old.broken ≡ true → self.new.broken ≡ true }
         ensures fewer { calls_left self.new < calls_left self.old }
     {
         match mem::replace(&mut self.stage, Stage::Bytes) {
