@@ -2,3 +2,4 @@ mod Checks
 mod Moving
 mod Serving
 mod Standing
+mod Telling

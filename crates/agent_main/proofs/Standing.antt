@@ -8,89 +8,103 @@ use Rattle.conn_core.specs.declared.stage.Stage.TheVariants as at
 use Rattle.conn_core.specs.Calls.{IsBytes, IsWrite, out_of}
 use Rattle.conn_core.specs.Stands.{Broken, Going, IsBroken, Stands, StandsAs, WaitsForBytes, fed, is_open, listens, shut}
 use Rattle.conn_core.specs.Trace.{Write, trace}
-use Rattle.agent_main.specs.declared.judge.Passes.{Passes}
-use Rattle.agent_main.specs.declared.judge.TheRule.{TheRule}
+use Rattle.tx_core.specs.HalfView.{HalfView}
+use Rattle.agent_main.specs.declared.judge.TheRules.{TheRules}
 use Rattle.agent_main.specs.declared.judge.Ticket.{Ticket}
-use Rattle.agent_main.specs.Connection.{writes}
-use Rattle.agent_main.specs.Judge.{Need, Reply, replies_to}
-use Rattle.agent_main.specs.Rule.{DeniedMethod}
-use Rattle.agent_main.specs.Steps.{Fails, Point, Runs, Same, Talk}
+use Rattle.agent_main.specs.Connection.{HasNeeds, writes}
+use Rattle.agent_main.specs.Judge.{Need, Reply}
+use Rattle.sec_ast.specs.declared.listing.Listing.{Listing}
+use Rattle.agent_main.specs.Steps.{Fails, Point, Replied, Runs, Same, Talk}
+use Rattle.agent_main.proofs.Moving.{exact, still}
 
 abbrev Place : Type 0
-Place = stages.Stage TheRule Passes Ticket
+Place = stages.Stage TheRules HalfView Ticket
 
 -- the needs that are left begin with these bytes
-abbrev Next : Point → List ℕ → Type 0
-Next s bytes = (left : List Need) ×
-    ((trace s.size s.input s.ended s.replies ≡ s.past ++ Write bytes ∷ left)
-    ⊎ IsBroken (trace s.size s.input s.ended s.replies) s.replies (s.past ++ Write bytes ∷ left))
+abbrev Next : Listing → Point → List ℕ → Type 0
+Next rules s bytes = (left : List Need) × HasNeeds rules s.size s.input s.ended s.past (s.past ++ Write bytes ∷ left)
 
 as_it_is : (s : Point) (needs : List Need) → trace s.size (s.input ++ []) s.ended (s.replies ++ []) ≡ needs → trace s.size s.input s.ended s.replies ≡ needs
 as_it_is s needs e = sym (λ i. trace s.size (append-nil s.input i) s.ended (append-nil s.replies i)) ∙ e
 
-next_plain : (c : Talk) (s : Point) (stage : Place) → Going (record c { stage = stage }) s → IsWrite false stage → Next s (out_of stage)
-next_plain c s (at.Write bytes None) g w = (_, inl (as_it_is s _ (g.is [] false [])))
-next_plain c s (at.Write bytes (Some how)) g w = (_, inl (as_it_is s _ (g.is [] false [])))
-next_plain c s at.LastWrite g w = absurd (cc w)
-next_plain c s at.Bytes g w = absurd w
-next_plain c s (at.Framed frame) g w = absurd w
-next_plain c s at.Ready g w = absurd w
-next_plain c s (at.Look id key request) g w = absurd w
-next_plain c s (at.Enter id key request rules life) g w = absurd w
-next_plain c s (at.Entering id request rules life) g w = absurd w
-next_plain c s (at.Begin id request rules hold) g w = absurd w
-next_plain c s (at.Begun id hold) g w = absurd w
-next_plain c s (at.Park id hold half) g w = absurd w
-next_plain c s (at.Leave id ticket verdict) g w = absurd w
-next_plain c s (at.Retire id half) g w = absurd w
-next_plain c s (at.Retiring id) g w = absurd w
-next_plain c s (at.Resume id key response) g w = absurd w
-next_plain c s (at.Resuming id response) g w = absurd w
-next_plain c s (at.Finish id half response) g w = absurd w
-next_plain c s (at.Finishing id) g w = absurd w
-next_plain c s (at.LastLeave ticket) g w = absurd w
-next_plain c s (at.Close how) g w = absurd w
+-- as they are with the judge's replies
+plainly : (rules : Listing) (s : Point) (bytes : List ℕ) (left : List Need) → Replied rules false s
+    → trace s.size (s.input ++ []) s.ended (s.replies ++ []) ≡ s.past ++ Write bytes ∷ left → Next rules s bytes
+plainly rules s bytes left r is = (left, inl (ap (λ (l : List Reply). trace s.size s.input s.ended l) (sym (exact rules s r)) ∙ as_it_is s _ is))
 
-next_broken : (c : Talk) (s : Point) (stage : Place) → Broken (record c { stage = stage }) s → IsWrite true stage → Next s (out_of stage)
-next_broken c s at.LastWrite b w = (_, inr b.trace_is)
-next_broken c s (at.Write bytes then) b w = absurd (cc w)
-next_broken c s at.Bytes b w = absurd w
-next_broken c s (at.Framed frame) b w = absurd w
-next_broken c s at.Ready b w = absurd w
-next_broken c s (at.Look id key request) b w = absurd w
-next_broken c s (at.Enter id key request rules life) b w = absurd w
-next_broken c s (at.Entering id request rules life) b w = absurd w
-next_broken c s (at.Begin id request rules hold) b w = absurd w
-next_broken c s (at.Begun id hold) b w = absurd w
-next_broken c s (at.Park id hold half) b w = absurd w
-next_broken c s (at.Leave id ticket verdict) b w = absurd w
-next_broken c s (at.Retire id half) b w = absurd w
-next_broken c s (at.Retiring id) b w = absurd w
-next_broken c s (at.Resume id key response) b w = absurd w
-next_broken c s (at.Resuming id response) b w = absurd w
-next_broken c s (at.Finish id half response) b w = absurd w
-next_broken c s (at.Finishing id) b w = absurd w
-next_broken c s (at.LastLeave ticket) b w = absurd w
-next_broken c s (at.Close how) b w = absurd w
+brokenly : (rules : Listing) (s : Point) (bytes : List ℕ) (left : List Need) → Replied rules true s
+    → IsBroken (trace s.size s.input s.ended s.replies) s.replies (s.past ++ Write bytes ∷ left) → Next rules s bytes
+brokenly rules s bytes left r is = (
+  left,
+  inr (record {
+    replied = r.front;
+    unreplied = r.rest;
+    past_is = r.past_is;
+    is = subst (λ (l : List Reply). IsBroken (trace s.size s.input s.ended l) l (s.past ++ Write bytes ∷ left)) r.replies_are is;
+  }),
+)
 
-next_as : (broken : Bool) (c : Talk) (s : Point) → StandsAs broken c s → IsWrite broken c.stage → Next s (out_of c.stage)
-next_as false c s h w = next_plain c s c.stage h.going w
-next_as true c s h w = next_broken c s c.stage h w
+next_plain : (rules : Listing) (c : Talk) (s : Point) (stage : Place) → Going (record c { stage = stage }) s → Replied rules false s → IsWrite false stage → Next rules s (out_of stage)
+next_plain rules c s (at.Write bytes None) g r w = plainly rules s bytes _ r (g.is [] false [])
+next_plain rules c s (at.Write bytes (Some how)) g r w = plainly rules s bytes _ r (g.is [] false [])
+next_plain rules c s at.LastWrite g r w = absurd (cc w)
+next_plain rules c s at.Bytes g r w = absurd w
+next_plain rules c s (at.Framed frame) g r w = absurd w
+next_plain rules c s at.Ready g r w = absurd w
+next_plain rules c s (at.Look id key request) g r w = absurd w
+next_plain under c s (at.Enter id key request rules life) g r w = absurd w
+next_plain under c s (at.Entering id request rules life) g r w = absurd w
+next_plain under c s (at.Begin id request rules hold) g r w = absurd w
+next_plain rules c s (at.Begun id hold) g r w = absurd w
+next_plain rules c s (at.Park id hold half) g r w = absurd w
+next_plain rules c s (at.Leave id ticket verdict) g r w = absurd w
+next_plain rules c s (at.Retire id half) g r w = absurd w
+next_plain rules c s (at.Retiring id) g r w = absurd w
+next_plain rules c s (at.Resume id key response) g r w = absurd w
+next_plain rules c s (at.Resuming id response) g r w = absurd w
+next_plain rules c s (at.Finish id half response) g r w = absurd w
+next_plain rules c s (at.Finishing id) g r w = absurd w
+next_plain rules c s (at.LastLeave ticket) g r w = absurd w
+next_plain rules c s (at.Close how) g r w = absurd w
+
+next_broken : (rules : Listing) (c : Talk) (s : Point) (stage : Place) → Broken (record c { stage = stage }) s → Replied rules true s → IsWrite true stage → Next rules s (out_of stage)
+next_broken rules c s at.LastWrite b r w = brokenly rules s _ _ r b.trace_is
+next_broken rules c s (at.Write bytes then) b r w = absurd (cc w)
+next_broken rules c s at.Bytes b r w = absurd w
+next_broken rules c s (at.Framed frame) b r w = absurd w
+next_broken rules c s at.Ready b r w = absurd w
+next_broken rules c s (at.Look id key request) b r w = absurd w
+next_broken under c s (at.Enter id key request rules life) b r w = absurd w
+next_broken under c s (at.Entering id request rules life) b r w = absurd w
+next_broken under c s (at.Begin id request rules hold) b r w = absurd w
+next_broken rules c s (at.Begun id hold) b r w = absurd w
+next_broken rules c s (at.Park id hold half) b r w = absurd w
+next_broken rules c s (at.Leave id ticket verdict) b r w = absurd w
+next_broken rules c s (at.Retire id half) b r w = absurd w
+next_broken rules c s (at.Retiring id) b r w = absurd w
+next_broken rules c s (at.Resume id key response) b r w = absurd w
+next_broken rules c s (at.Resuming id response) b r w = absurd w
+next_broken rules c s (at.Finish id half response) b r w = absurd w
+next_broken rules c s (at.Finishing id) b r w = absurd w
+next_broken rules c s (at.LastLeave ticket) b r w = absurd w
+next_broken rules c s (at.Close how) b r w = absurd w
+
+next_as : (rules : Listing) (broken : Bool) (c : Talk) (s : Point) → StandsAs broken c s → IsWrite broken c.stage → Replied rules broken s → Next rules s (out_of c.stage)
+next_as rules false c s h w r = next_plain rules c s c.stage h.going r w
+next_as rules true c s h w r = next_broken rules c s c.stage h r w
 
 -- a write of what is to be written failed behind a front of it
-pub fails : (rule : DeniedMethod) (c : Talk) (s : Point) (old before now : Option (List ℕ)) (front back : List ℕ)
-    → Runs rule c s old before → IsWrite c.broken c.stage → front ++ back ≡ out_of c.stage → Adds before front now → Fails rule s old now
-fails rule c s old before now front back r w is adds =
-    let next = next_as c.broken c s r.stands.stands w in
-    let parts = subst (λ (l : List ℕ). Next s l) (sym is) next in
+pub fails : (rules : Listing) (c : Talk) (s : Point) (old before now : Option (List ℕ)) (front back : List ℕ)
+    → Runs rules c s old before → IsWrite c.broken c.stage → front ++ back ≡ out_of c.stage → Adds before front now → Fails rules s old now
+fails rules c s old before now front back r w is adds =
+    let next = next_as rules c.broken c s r.stands.stands w r.replied in
+    let parts = subst (λ (l : List ℕ). Next rules s l) (sym is) next in
     record {
       past = s.past;
       front = front;
       back = back;
       left = parts.0;
-      needs = subst (λ (l : List Reply).
-          (trace s.size s.input s.ended l ≡ s.past ++ Write (front ++ back) ∷ parts.0)
-          ⊎ IsBroken (trace s.size s.input s.ended l) l (s.past ++ Write (front ++ back) ∷ parts.0)) r.replies_are parts.1;
+      needs = parts.1;
       added = adds_both old before now (writes s.past) front r.added adds;
     }
 
@@ -120,22 +134,27 @@ open_at (at.Close how) h = absurd h
 pub listens_at : (c : Talk) → IsBytes c.stage → c.broken ≡ false → listens c ≡ true
 listens_at c h whole = ap (λ (b : Bool). cond b false (is_open c.stage)) whole ∙ open_at c.stage h
 
+-- what is broken doesn't listen, and stays as it is
+broken_stays : (c d : Talk) → (listens c ≡ false → d ≡ c) → c.broken ≡ true → d.broken ≡ true
+broken_stays c d deaf is = ap (λ (t : Talk). t.broken) (deaf (ap (λ (b : Bool). cond b false (is_open c.stage)) is)) ∙ is
+
 -- what it has said is the same behind a piece, or at the end of the input
-runs_if : (b : Bool) (rule : DeniedMethod) (c d : Talk) (s t : Point) (old held : Option (List ℕ)) → t.replies ≡ s.replies → t.past ≡ s.past
-    → Runs rule c s old held → Stands d (cond b t s) → Runs rule d (cond b t s) old held
-runs_if true rule c d s t old held replies past r stands = record {
+runs_if : (b : Bool) (rules : Listing) (c d : Talk) (s t : Point) (old held : Option (List ℕ)) → (c.broken ≡ true → d.broken ≡ true) → t.replies ≡ s.replies → t.past ≡ s.past
+    → Runs rules c s old held → Stands d (cond b t s) → Runs rules d (cond b t s) old held
+runs_if true rules c d s t old held stays replies past r stands = record {
   stands = stands;
-  replies_are = replies ∙ r.replies_are ∙ ap (replies_to rule) (sym past);
+  replied = still rules c.broken d.broken s t stays replies past r.replied;
   added = subst (λ (l : List Need). Adds old (writes l) held) (sym past) r.added;
 }
-runs_if false rule c d s t old held replies past r stands = record { stands = stands; replies_are = r.replies_are; added = r.added }
+runs_if false rules c d s t old held stays replies past r stands = record { stands = stands; replied = still rules c.broken d.broken s s stays refl refl r.replied; added = r.added }
 
-pub runs_fed : (rule : DeniedMethod) (c d : Talk) (s : Point) (piece : List ℕ) (old held : Option (List ℕ)) → Runs rule c s old held → Stands d (fed c piece s)
-    → Runs rule d (fed c piece s) old held
-runs_fed rule c d s piece old held r stands = runs_if (listens c) rule c d s _ old held refl refl r stands
+pub runs_fed : (rules : Listing) (c d : Talk) (s : Point) (piece : List ℕ) (old held : Option (List ℕ)) → (listens c ≡ false → d ≡ c) → Runs rules c s old held
+    → Stands d (fed c piece s) → Runs rules d (fed c piece s) old held
+runs_fed rules c d s piece old held deaf r stands = runs_if (listens c) rules c d s _ old held (broken_stays c d deaf) refl refl r stands
 
-pub runs_shut : (rule : DeniedMethod) (c d : Talk) (s : Point) (old held : Option (List ℕ)) → Runs rule c s old held → Stands d (shut c s) → Runs rule d (shut c s) old held
-runs_shut rule c d s old held r stands = runs_if (listens c) rule c d s _ old held refl refl r stands
+pub runs_shut : (rules : Listing) (c d : Talk) (s : Point) (old held : Option (List ℕ)) → (listens c ≡ false → d ≡ c) → Runs rules c s old held → Stands d (shut c s)
+    → Runs rules d (shut c s) old held
+runs_shut rules c d s old held deaf r stands = runs_if (listens c) rules c d s _ old held (broken_stays c d deaf) refl refl r stands
 
 pub fed_is : (c : Talk) (s : Point) (piece : List ℕ) → listens c ≡ true
     → fed c piece s ≡ record { size = s.size; input = s.input ++ piece; ended = s.ended; replies = s.replies; past = s.past }

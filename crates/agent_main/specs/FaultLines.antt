@@ -1,5 +1,6 @@
 -- The line that is printed for a fault.
 use Rattle.std.specs.Prelude.{ℕ, ◌==◌, List, [], ◌++◌, length, codes, decimal, if◌then◌else◌}
+use Rattle.sec_ast.specs.declared.rule.Place.{Place}
 use Rattle.sec_read.specs.declared.faults.Fault.{Fault}
 use Rattle.sec_read.specs.Faults.{kind_name}
 
@@ -18,3 +19,7 @@ line_of place kind word = place ++ codes ": " ++ kind ++ behind (codes " ") word
 -- of a rule text
 abbrev pub fault_line : Fault → List ℕ
 fault_line f = line_of (place f.file f.line) (kind_name f.kind) f.word
+
+-- of a rule with a pattern that has no reading
+abbrev pub pattern_line : Place → ℕ → List ℕ
+pattern_line p id = line_of (place p.file p.line) (codes "BadPattern") (decimal id)

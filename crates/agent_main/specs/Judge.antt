@@ -1,46 +1,47 @@
--- What the judge of one rule answers to each need of a connection.
-use Rattle.std.specs.Prelude.{◌≡◌, ℕ, false, List, [], ◌∷◌, None, if◌then◌else◌}
+-- What the judge answers to each need of a connection, under the rules of a listing.
+use Rattle.std.specs.Prelude.{◌≡◌, ℕ, false, List, [], ◌∷◌, Option, Some, None}
 use Rattle.std.specs.List.{flat_map}
-use Rattle.std.specs.Str.{bytes_eq}
 use Rattle.web_parts.specs.declared.transaction.Request.{Request}
+use Rattle.sec_ast.specs.declared.listing.Listing.{Listing}
 use Rattle.sec_ast.specs.declared.verdict.Verdict.{Verdict}
-use Rattle.sec_ast.specs.declared.verdict.VerdictAct.TheVariants as acts
+use Rattle.sec_meaning.specs.Judgement.{judge}
+use Rattle.tx_core.specs.HalfView.{HalfView}
 use Rattle.conn_core.specs.declared.answer.BegunAnswer as answers
 use Rattle.conn_core.specs.declared.answer.BegunAnswer.TheVariants as beguns
 use Rattle.conn_core.specs.Trace as trace
 use Rattle.conn_core.specs.Trace.{Look, Enter, Begin, Resume, Finish, Found, Refused, Interrupted, Goes, NotParked, Ended}
-use Rattle.agent_main.specs.declared.judge.Passes.{Passes}
-use Rattle.agent_main.specs.declared.judge.TheRule.{TheRule}
+use Rattle.agent_main.specs.declared.judge.TheRules.{TheRules}
 use Rattle.agent_main.specs.declared.judge.Ticket.{Ticket}
-use Rattle.agent_main.specs.Rule.{DeniedMethod}
 
 abbrev pub Need : Type 0
-Need = trace.Need TheRule Passes Ticket
+Need = trace.Need TheRules HalfView Ticket
 
 abbrev pub Reply : Type 0
-Reply = trace.Reply TheRule Passes Ticket
+Reply = trace.Reply TheRules HalfView Ticket
 
-abbrev pub denial : ℕ → Verdict
-denial id = record { rule = id; act = acts.Deny; status = 403 }
+-- the first verdict; where there is none, the request goes on under these rules
+abbrev pub reply_of : Listing → Request → Option Verdict → Reply
+reply_of rules request None = Goes (record { generation = 1; listing = rules; request = request })
+reply_of rules request (Some verdict) = Interrupted verdict
 
--- a request of the method is denied, every other passes
-abbrev pub judged : DeniedMethod → Request → Reply
-judged rule request = if bytes_eq request.method rule.method then Interrupted (denial rule.id) else Goes (record {})
+-- a request is judged alone
+abbrev pub judged : Listing → Request → Reply
+judged rules request = reply_of rules request (judge rules request None).first
 
--- Every application has the one rule, and its responses are not judged. So no request is parked, and none is found.
-abbrev pub reply_to : DeniedMethod → Need → List Reply
-reply_to rule (Look app) = Found (record {}) (record { responses = false; life = 60000 }) ∷ []
-reply_to rule (Begin handle request) = judged rule request ∷ []
-reply_to rule (Enter key) = Refused 3 ∷ []
-reply_to rule (Resume key) = NotParked ∷ []
-reply_to rule (Finish half response) = Ended None ∷ []
-reply_to rule other = []
+-- Every application has these rules, and its responses are not judged. So no request is parked, and none is found.
+abbrev pub reply_to : Listing → Need → List Reply
+reply_to rules (Look app) = Found (record {}) (record { responses = false; life = 60000 }) ∷ []
+reply_to rules (Begin handle request) = judged rules request ∷ []
+reply_to rules (Enter key) = Refused 3 ∷ []
+reply_to rules (Resume key) = NotParked ∷ []
+reply_to rules (Finish half response) = Ended None ∷ []
+reply_to rules other = []
 
-abbrev pub replies_to : DeniedMethod → List Need → List Reply
-replies_to rule needs = flat_map (reply_to rule) needs
+abbrev pub replies_to : Listing → List Need → List Reply
+replies_to rules needs = flat_map (reply_to rules) needs
 
--- the answer tells that reply
-abbrev pub Tells : answers.BegunAnswer Passes → Reply → Type 0
+-- the answer tells that reply; that memory ran out tells none
+abbrev pub Tells : answers.BegunAnswer HalfView → Reply → Type 0
 Tells (beguns.Interrupted verdict) reply = reply ≡ Interrupted verdict
 Tells (beguns.Goes half) reply = reply ≡ Goes half
-Tells beguns.NoMemory reply = ⊥
+Tells beguns.NoMemory reply = Unit {0}

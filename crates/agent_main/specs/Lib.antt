@@ -5,8 +5,6 @@ pub mod Halted
 pub mod Judge
 pub mod Listings
 pub mod Report
-pub mod Rule
-pub mod RuleSeen
 pub mod Run
 pub mod Steps
 pub mod Words

@@ -5,7 +5,7 @@ use Rattle.agent_main.specs.declared.serve.End as end
 use Rattle.agent_main.specs.declared.serve.End.TheVariants as ends
 use Rattle.agent_main.specs.Connection.{Ends}
 use Rattle.agent_main.specs.Report.{GivesUp}
-use Rattle.agent_main.specs.Rule.{DeniedMethod}
+use Rattle.sec_ast.specs.declared.listing.Listing.{Listing}
 
 -- the exit status for the end of a connection
 abbrev pub status_of : end.End → ℕ
@@ -18,6 +18,6 @@ status_of ends.WriteFault = 5
 status_of ends.NoMemory = 6
 
 -- the status is that of an end of this connection, or it gave up before
-abbrev pub Exits : ℕ → DeniedMethod → ℕ → List ℕ → Option (List ℕ) → Option (List ℕ) → Type 0
-Exits result rule size input old new =
-    ((how : end.End) × (result ≡ status_of how) × Ends how rule size input old new) ⊎ GivesUp result old new
+abbrev pub Exits : ℕ → Listing → ℕ → List ℕ → Option (List ℕ) → Option (List ℕ) → Type 0
+Exits result rules size input old new =
+    ((how : end.End) × (result ≡ status_of how) × Ends how rules size input old new) ⊎ GivesUp result old new

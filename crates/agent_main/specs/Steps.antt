@@ -1,11 +1,11 @@
 -- What a step of serving does to the state that a connection stands for.
-use Rattle.std.specs.Prelude.{◌≡◌, ℕ, true, List, ◌∷◌, ◌++◌, Option, Some, None}
+use Rattle.std.specs.Prelude.{◌≡◌, ℕ, Bool, true, false, List, [], ◌∷◌, ◌++◌, Option, Some, None}
 use Rattle.waf_io.specs.Sink.{Adds}
 use Rattle.conn_core.specs.declared.need.Closing as closing
 use Rattle.conn_core.specs.Stands.{Held, State, Stands, Closes, WaitsForBytes, fed, listens, shut}
 use Rattle.conn_core.specs.Trace.{Write}
-use Rattle.agent_main.specs.declared.judge.Passes.{Passes}
-use Rattle.agent_main.specs.declared.judge.TheRule.{TheRule}
+use Rattle.tx_core.specs.HalfView.{HalfView}
+use Rattle.agent_main.specs.declared.judge.TheRules.{TheRules}
 use Rattle.agent_main.specs.declared.judge.Ticket.{Ticket}
 use Rattle.agent_main.specs.declared.serve.End as end
 use Rattle.agent_main.specs.declared.serve.End.TheVariants as ends
@@ -13,18 +13,26 @@ use Rattle.agent_main.specs.declared.serve.Turn as turn
 use Rattle.agent_main.specs.declared.serve.Turn.TheVariants as turns
 use Rattle.agent_main.specs.Connection.{HasNeeds, writes}
 use Rattle.agent_main.specs.Judge.{Need, replies_to}
-use Rattle.agent_main.specs.Rule.{DeniedMethod}
+use Rattle.sec_ast.specs.declared.listing.Listing.{Listing}
 
 abbrev pub Talk : Type 0
-Talk = Held TheRule Passes Ticket
+Talk = Held TheRules HalfView Ticket
 
 abbrev pub Point : Type 0
-Point = State TheRule Passes Ticket
+Point = State TheRules HalfView Ticket
+
+-- the replies are the judge's to the needs that are done; after want of memory, to a front of them
+pub record Replied (rules : Listing) (broken : Bool) (s : Point) : Type 0 where
+  pub front : List Need
+  pub rest : List Need
+  pub past_is : s.past ≡ front ++ rest
+  pub replies_are : s.replies ≡ replies_to rules front
+  pub whole : broken ≡ false → rest ≡ []
 
 -- it stands for a state whose replies are the judge's, and its Writes were added
-pub record Runs (rule : DeniedMethod) (c : Talk) (s : Point) (old now : Option (List ℕ)) : Type 0 where
+pub record Runs (rules : Listing) (c : Talk) (s : Point) (old now : Option (List ℕ)) : Type 0 where
   pub stands : Stands c s
-  pub replies_are : s.replies ≡ replies_to rule s.past
+  pub replied : Replied rules c.broken s
   pub added : Adds old (writes s.past) now
 
 -- the same input of the same agent
@@ -34,56 +42,56 @@ pub record Same (s t : Point) : Type 0 where
   pub ended : t.ended ≡ s.ended
 
 -- it goes on at a later state
-abbrev pub Acts : DeniedMethod → Talk → Talk → Option (List ℕ) → Option (List ℕ) → Type 0
-Acts rule c d before now =
-    (old : Option (List ℕ)) (s : Point) → Runs rule c s old before → (t : Point) × Runs rule d t old now × Same s t
+abbrev pub Acts : Listing → Talk → Talk → Option (List ℕ) → Option (List ℕ) → Type 0
+Acts rules c d before now =
+    (old : Option (List ℕ)) (s : Point) → Runs rules c s old before → (t : Point) × Runs rules d t old now × Same s t
 
 -- bytes are to be written next, of which a front was added
-pub record Fails (rule : DeniedMethod) (s : Point) (old now : Option (List ℕ)) : Type 0 where
+pub record Fails (rules : Listing) (s : Point) (old now : Option (List ℕ)) : Type 0 where
   pub past : List Need
   pub front : List ℕ
   pub back : List ℕ
   pub left : List Need
-  pub needs : HasNeeds rule s.size s.input s.ended past (past ++ Write (front ++ back) ∷ left)
+  pub needs : HasNeeds rules s.size s.input s.ended past (past ++ Write (front ++ back) ∷ left)
   pub added : Adds old (writes past ++ front) now
 
-abbrev pub FailsToWrite : DeniedMethod → Talk → Option (List ℕ) → Option (List ℕ) → Type 0
-FailsToWrite rule c before now = (old : Option (List ℕ)) (s : Point) → Runs rule c s old before → Fails rule s old now
+abbrev pub FailsToWrite : Listing → Talk → Option (List ℕ) → Option (List ℕ) → Type 0
+FailsToWrite rules c before now = (old : Option (List ℕ)) (s : Point) → Runs rules c s old before → Fails rules s old now
 
 -- it stands at its close
-abbrev pub ClosesAs : DeniedMethod → closing.Closing → Talk → Talk → Option (List ℕ) → Option (List ℕ) → Type 0
-ClosesAs rule how c d before now =
-    (old : Option (List ℕ)) (s : Point) → Runs rule c s old before → (t : Point) × Runs rule d t old now × Same s t × Closes d t how
+abbrev pub ClosesAs : Listing → closing.Closing → Talk → Talk → Option (List ℕ) → Option (List ℕ) → Type 0
+ClosesAs rules how c d before now =
+    (old : Option (List ℕ)) (s : Point) → Runs rules c s old before → (t : Point) × Runs rules d t old now × Same s t × Closes d t how
 
 -- it waits for bytes
-abbrev pub WaitsThen : DeniedMethod → Talk → Talk → Option (List ℕ) → Option (List ℕ) → Type 0
-WaitsThen rule c d before now =
-    (old : Option (List ℕ)) (s : Point) → Runs rule c s old before
-    → (t : Point) × Runs rule d t old now × Same s t × WaitsForBytes t × (listens d ≡ true)
+abbrev pub WaitsThen : Listing → Talk → Talk → Option (List ℕ) → Option (List ℕ) → Type 0
+WaitsThen rules c d before now =
+    (old : Option (List ℕ)) (s : Point) → Runs rules c s old before
+    → (t : Point) × Runs rules d t old now × Same s t × WaitsForBytes t × (listens d ≡ true)
 
 -- all needs were done up to one for bytes, or the close
-abbrev pub Turns : DeniedMethod → turn.Turn → Talk → Talk → Option (List ℕ) → Option (List ℕ) → Type 0
-Turns rule turns.Waits c d before now = WaitsThen rule c d before now
-Turns rule (turns.Closes how) c d before now = ClosesAs rule how c d before now
-Turns rule turns.Fails c d before now = FailsToWrite rule c before now
+abbrev pub Turns : Listing → turn.Turn → Talk → Talk → Option (List ℕ) → Option (List ℕ) → Type 0
+Turns rules turns.Waits c d before now = WaitsThen rules c d before now
+Turns rules (turns.Closes how) c d before now = ClosesAs rules how c d before now
+Turns rules turns.Fails c d before now = FailsToWrite rules c before now
 
 -- one need was done, or that was the last
-abbrev pub Stepped : DeniedMethod → Option turn.Turn → Talk → Talk → Option (List ℕ) → Option (List ℕ) → Type 0
-Stepped rule None c d before now = Acts rule c d before now
-Stepped rule (Some turn) c d before now = Turns rule turn c d before now
+abbrev pub Stepped : Listing → Option turn.Turn → Talk → Talk → Option (List ℕ) → Option (List ℕ) → Type 0
+Stepped rules None c d before now = Acts rules c d before now
+Stepped rules (Some turn) c d before now = Turns rules turn c d before now
 
 -- after a piece, or at the end of the input: it waits, or that was its end
-abbrev pub Heard : DeniedMethod → Option end.End → Point → Talk → Option (List ℕ) → Option (List ℕ) → Type 0
-Heard rule None s d old now = (t : Point) × Runs rule d t old now × Same s t × WaitsForBytes t × (listens d ≡ true)
-Heard rule (Some (ends.Closed how)) s d old now = (t : Point) × Runs rule d t old now × Same s t × Closes d t how
-Heard rule (Some ends.WriteFault) s d old now = Fails rule s old now
-Heard rule (Some ends.Spent) s d old now = ⊥
-Heard rule (Some ends.ReadFault) s d old now = ⊥
-Heard rule (Some ends.NoMemory) s d old now = ⊥
+abbrev pub Heard : Listing → Option end.End → Point → Talk → Option (List ℕ) → Option (List ℕ) → Type 0
+Heard rules None s d old now = (t : Point) × Runs rules d t old now × Same s t × WaitsForBytes t × (listens d ≡ true)
+Heard rules (Some (ends.Closed how)) s d old now = (t : Point) × Runs rules d t old now × Same s t × Closes d t how
+Heard rules (Some ends.WriteFault) s d old now = Fails rules s old now
+Heard rules (Some ends.Spent) s d old now = ⊥
+Heard rules (Some ends.ReadFault) s d old now = ⊥
+Heard rules (Some ends.NoMemory) s d old now = ⊥
 
-abbrev pub Hears : DeniedMethod → List ℕ → Option end.End → Talk → Talk → Option (List ℕ) → Option (List ℕ) → Type 0
-Hears rule piece result c d before now =
-    (old : Option (List ℕ)) (s : Point) → Runs rule c s old before → Heard rule result (fed c piece s) d old now
+abbrev pub Hears : Listing → List ℕ → Option end.End → Talk → Talk → Option (List ℕ) → Option (List ℕ) → Type 0
+Hears rules piece result c d before now =
+    (old : Option (List ℕ)) (s : Point) → Runs rules c s old before → Heard rules result (fed c piece s) d old now
 
-abbrev pub EndsHere : DeniedMethod → end.End → Talk → Talk → Option (List ℕ) → Option (List ℕ) → Type 0
-EndsHere rule result c d before now = (old : Option (List ℕ)) (s : Point) → Runs rule c s old before → Heard rule (Some result) (shut c s) d old now
+abbrev pub EndsHere : Listing → end.End → Talk → Talk → Option (List ℕ) → Option (List ℕ) → Type 0
+EndsHere rules result c d before now = (old : Option (List ℕ)) (s : Point) → Runs rules c s old before → Heard rules (Some result) (shut c s) d old now

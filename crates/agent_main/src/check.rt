@@ -9,7 +9,7 @@ ghost use Rattle.agent_main.specs.Report.{Answers};
 
 use crate::fault_lines::line_of;
 use crate::halt::Halt;
-use crate::listings::listing_of_all;
+use crate::listings::rules_of_all;
 use crate::report::report;
 use agent_conf::{AppConf, Conf, ConfFault, read_conf};
 use sec_ast::print_listing;
@@ -102,11 +102,11 @@ fn push_app<F: Files>(
     ensures cause { result ≡ Err halts.ReadFault → Rose (F.faults files.old) (F.faults files.new) }
 {
     let names = names_beside(alloc, conf, app.rules.as_slice())?;
-    let listing = listing_of_all(alloc, &names, files)?;
+    let rules = rules_of_all(alloc, &names, files)?;
     text.append(b"app ")?;
     text.append(app.name.as_slice())?;
     text.append(b"\n")?;
-    print_listing(alloc, &listing, text)?;
+    print_listing(alloc, rules.listing(), text)?;
     Ok(())
 }
 

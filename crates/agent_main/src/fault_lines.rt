@@ -1,6 +1,7 @@
 ghost use Rattle.std.specs.Prelude.{◌≡◌, ◌++◌, codes, decimal, IfOk, OnOk};
-ghost use Rattle.agent_main.specs.FaultLines.{behind, fault_line, line_of, place};
+ghost use Rattle.agent_main.specs.FaultLines.{behind, fault_line, line_of, pattern_line, place};
 
+use sec_ast::Place;
 use sec_read::Fault;
 use std::alloc::Global;
 use waf_plain::{Bytes, NoMemory};
@@ -16,6 +17,16 @@ pub fn fault_line(alloc: Global, fault: &Fault) -> Result<Bytes, NoMemory>
         fault.kind.name(),
         fault.word.as_slice(),
     )
+}
+
+// The line of a rule with a pattern that has no reading.
+pub fn pattern_line(alloc: Global, rule: &Place, id: u32) -> Result<Bytes, NoMemory>
+    ensures { IfOk result (λ line. line ≡ pattern_line rule.now id) }
+{
+    let place = place(alloc, rule.file.as_slice(), rule.line)?;
+    let mut buffer = itoa::Buffer::new();
+    let number = buffer.format(id).as_bytes();
+    line_of(alloc, place.as_slice(), b"BadPattern", number)
 }
 
 // A file, and a line of it where that is not 0.

@@ -1,41 +1,39 @@
 ghost use Rattle.std.specs.Prelude.{◌≡◌, ◌<◌, Option, List, ℕ};
-ghost use Rattle.std.specs.Str.{bytes_eq};
+ghost use Rattle.std.specs.Arc.{arc_value};
 ghost use Rattle.conn_core.specs.Calls.{At};
 ghost use Rattle.conn_core.specs.Stands.{calls_left};
 ghost use Rattle.agent_main.specs.Judge.{judged, Tells};
-ghost use Rattle.agent_main.specs.RuleSeen.{rule_seen};
 
-use crate::reading::is_same;
-use crate::rule::MethodRule;
+use crate::verdicts::{begun, retired};
 use conn_core::{BegunAnswer, Conn, EndedAnswer, EntryAnswer, LookAnswer, Need, Settings};
-use sec_ast::{Verdict, VerdictAct};
+use sec_compile::Ruleset;
+use std::alloc::Global;
+use std::sync::Arc;
+use tx_core::{Begun, Half};
+use waf_plain::NoMemory;
 use web_parts::Request;
 
-// What stands for the one rule.
+// What stands for the rules, which every application has.
 #[derive(Clone, Copy, Debug, PartialEq, Eq)]
-pub struct TheRule {}
-
-// What stands for a request that passes.
-#[derive(Clone, Copy, Debug, PartialEq, Eq)]
-pub struct Passes {}
+pub struct TheRules {}
 
 // No request is parked, so that nobody makes one.
 #[derive(Clone, Copy, Debug, PartialEq, Eq)]
 pub struct Ticket {}
 
-// A connection under one rule.
-pub type Talk = Conn<TheRule, Passes, Ticket>;
+// A connection under some rules.
+pub type Talk = Conn<TheRules, Half, Ticket>;
 
 ghost use Rattle.agent_main.specs.Steps.{Acts, Runs, Point};
 
-// Every application has the one rule, and its responses are not judged.
+// Every application has the rules, and its responses are not judged.
 pub fn look(talk: &mut Talk)
     requires { At Need.Look talk.old.broken talk.old.stage }
-    ensures acts { (rule : _) (held : Option (List ℕ)) → Acts rule talk.old talk.new held held }
+    ensures acts { (rules : _) (held : Option (List ℕ)) → Acts rules talk.old talk.new held held }
     ensures fewer { calls_left talk.new < calls_left talk.old }
 {
     talk.give_look(LookAnswer::Found {
-        rules: TheRule {},
+        rules: TheRules {},
         settings: Settings {
             responses: false,
             life: 60000,
@@ -46,68 +44,65 @@ pub fn look(talk: &mut Talk)
 // There is no room in a table that nobody needs.
 pub fn enter(talk: &mut Talk)
     requires { At Need.Enter talk.old.broken talk.old.stage }
-    ensures acts { (rule : _) (held : Option (List ℕ)) → Acts rule talk.old talk.new held held }
+    ensures acts { (rules : _) (held : Option (List ℕ)) → Acts rules talk.old talk.new held held }
     ensures fewer { calls_left talk.new < calls_left talk.old }
 {
     let _ = talk.take_key();
     talk.give_entry(EntryAnswer::Full);
 }
 
-// The request is judged by the rule.
-pub fn begin(rule: &MethodRule<'_>, talk: &mut Talk)
+// The request is judged by the rules.
+pub fn begin(alloc: Global, rules: &Arc<Ruleset, Global>, talk: &mut Talk)
     requires { At Need.Begin talk.old.broken talk.old.stage }
-    ensures acts { (held : Option (List ℕ)) → Acts (rule_seen rule.now) talk.old talk.new held held }
+    ensures acts { (held : Option (List ℕ)) → Acts (arc_value rules.now) talk.old talk.new held held }
     ensures fewer { calls_left talk.new < calls_left talk.old }
 {
     let (_, request) = talk.take_begin();
-    talk.give_begun(judge(rule, &request));
+    talk.give_begun(judged(alloc, rules, request));
 }
 
-fn judge(rule: &MethodRule<'_>, request: &Request) -> BegunAnswer<Passes>
-    ensures { Tells result (judged (rule_seen rule.now) request.now) }
+fn judged(alloc: Global, rules: &Arc<Ruleset, Global>, request: Request) -> BegunAnswer<Half>
+    ensures { Tells result (judged (arc_value rules.now) request) }
 {
-    if is_same(request.method.as_slice(), rule.method) {
-        BegunAnswer::Interrupted(Verdict {
-            rule: rule.id,
-            act: VerdictAct::Deny,
-            status: 403,
-        })
-    } else {
-        BegunAnswer::Goes(Passes {})
+    match begun(alloc, rules, request) {
+        Ok(Begun::Interrupted { verdict, .. }) => BegunAnswer::Interrupted(verdict),
+        Ok(Begun::Goes { half, .. }) => BegunAnswer::Goes(half),
+        Err(NoMemory) => BegunAnswer::NoMemory,
     }
 }
 
 // Nothing is kept of what would be parked.
 pub fn park(talk: &mut Talk)
     requires { At Need.Park talk.old.broken talk.old.stage }
-    ensures acts { (rule : _) (held : Option (List ℕ)) → Acts rule talk.old talk.new held held }
+    ensures acts { (rules : _) (held : Option (List ℕ)) → Acts rules talk.old talk.new held held }
     ensures fewer { calls_left talk.new < calls_left talk.old }
 {
-    let _ = talk.take_park();
+    let (_, _, half) = talk.take_park();
+    drop(half);
 }
 
 pub fn leave(talk: &mut Talk)
     requires { At Need.Leave talk.old.broken talk.old.stage }
-    ensures acts { (rule : _) (held : Option (List ℕ)) → Acts rule talk.old talk.new held held }
+    ensures acts { (rules : _) (held : Option (List ℕ)) → Acts rules talk.old talk.new held held }
     ensures fewer { calls_left talk.new < calls_left talk.old }
 {
     let _ = talk.take_leave();
 }
 
-// A request that passed needs nothing more.
-pub fn retire(talk: &mut Talk)
+// A request that passed has its last phase.
+pub fn retire(alloc: Global, talk: &mut Talk)
     requires { At Need.Retire talk.old.broken talk.old.stage }
-    ensures acts { (rule : _) (held : Option (List ℕ)) → Acts rule talk.old talk.new held held }
+    ensures acts { (rules : _) (held : Option (List ℕ)) → Acts rules talk.old talk.new held held }
     ensures fewer { calls_left talk.new < calls_left talk.old }
 {
-    let _ = talk.take_retire();
-    talk.give_retired(true);
+    let half = talk.take_retire();
+    talk.give_retired(retired(alloc, half));
 }
 
 // No request is parked.
 pub fn resume(talk: &mut Talk)
     requires { At Need.Resume talk.old.broken talk.old.stage }
-    ensures acts { (rule : _) (held : Option (List ℕ)) → Acts rule talk.old talk.new held held }
+    ensures acts { (rules : _) (held : Option (List ℕ)) → Acts rules talk.old talk.new held held }
     ensures fewer { calls_left talk.new < calls_left talk.old }
 {
     let _ = talk.take_key();
@@ -116,9 +111,10 @@ pub fn resume(talk: &mut Talk)
 
 pub fn finish(talk: &mut Talk)
     requires { At Need.Finish talk.old.broken talk.old.stage }
-    ensures acts { (rule : _) (held : Option (List ℕ)) → Acts rule talk.old talk.new held held }
+    ensures acts { (rules : _) (held : Option (List ℕ)) → Acts rules talk.old talk.new held held }
     ensures fewer { calls_left talk.new < calls_left talk.old }
 {
-    let _ = talk.take_finish();
+    let (half, response) = talk.take_finish();
+    drop((half, response));
     talk.give_ended(EndedAnswer::Verdict(None));
 }

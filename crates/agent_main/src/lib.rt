@@ -8,12 +8,11 @@ mod judge;
 mod listings;
 mod offline;
 mod once;
-mod reading;
 mod report;
-mod rule;
 mod serve;
 #[cfg(test)]
 mod tests;
+mod verdicts;
 mod words;
 
 pub use offline::offline_main;

@@ -1,48 +1,62 @@
-ghost use Rattle.std.specs.Prelude.{◌≡◌, ◌≤◌, ◌∷◌, [], Err, IfSome};
+ghost use Rattle.std.specs.Prelude.{◌≡◌, ◌≢◌, ◌≤◌, ◌∷◌, [], Err, IfSome};
 ghost use Rattle.waf_io.specs.Counts.{Rose};
 ghost use Rattle.agent_main.specs.declared.halt.Halt.TheVariants as halts;
 ghost use Rattle.agent_main.specs.Halted.{HaltsAt, Tells};
-ghost use Rattle.agent_main.specs.Listings.{listing_in};
+ghost use Rattle.agent_main.specs.Listings.{compiled, listing_in};
 
-use crate::fault_lines::fault_line;
+use crate::fault_lines::{fault_line, pattern_line};
 use crate::halt::Halt;
 use sec_ast::Listing;
+use sec_compile::{CompileFault, Ruleset, compile};
 use sec_read::{Fault, Kind, read_all, read_rules};
 use std::alloc::Global;
 use waf_io::Files;
 use waf_plain::{Bytes, NoMemory, Seq};
 
-// The listing of a file, or the line of its first fault.
-pub fn listing_of<F: Files>(alloc: Global, name: &[u8], files: &mut F) -> Result<Listing, Halt>
+// The rules of a file, compiled, or the line of the first fault.
+pub fn rules_of<F: Files>(alloc: Global, name: &[u8], files: &mut F) -> Result<Ruleset, Halt>
     ensures told { IfSome (F.content files.old) (λ told. Tells result (listing_in told (name.now ∷ []))) }
     ensures same { F.content files.new ≡ F.content files.old }
     ensures later { F.faults files.old ≤ F.faults files.new }
     ensures cause { result ≡ Err halts.ReadFault → Rose (F.faults files.old) (F.faults files.new) }
 {
     match read_rules(alloc, name, files) {
-        Ok(listing) => Ok(listing),
+        Ok(listing) => compiled(alloc, listing),
         Err(fault) => Err(halted(alloc, fault)),
     }
 }
 
-// The listing of some files, one after the other, or the line of the first fault.
-pub fn listing_of_all<F: Files>(
+// The rules of some files, one after the other, or the line of the first fault.
+pub fn rules_of_all<F: Files>(
     alloc: Global,
     names: &Seq<Bytes>,
     files: &mut F,
-) -> Result<Listing, Halt>
+) -> Result<Ruleset, Halt>
     ensures told { IfSome (F.content files.old) (λ told. Tells result (listing_in told names.now)) }
     ensures same { F.content files.new ≡ F.content files.old }
     ensures later { F.faults files.old ≤ F.faults files.new }
     ensures cause { result ≡ Err halts.ReadFault → Rose (F.faults files.old) (F.faults files.new) }
 {
     match read_all(alloc, names, files) {
-        Ok(listing) => Ok(listing),
+        Ok(listing) => compiled(alloc, listing),
         Err(fault) => Err(halted(alloc, fault)),
     }
 }
 
-// What a fault comes to.
+fn compiled(alloc: Global, listing: Listing) -> Result<Ruleset, Halt>
+    ensures told { Tells result (compiled listing) }
+    ensures no_read { result ≢ Err halts.ReadFault }
+{
+    match compile(alloc, listing) {
+        Ok(rules) => Ok(rules),
+        Err(CompileFault::BadPattern { place, id }) => {
+            Err(Halt::Line(pattern_line(alloc, &place, id)?))
+        }
+        Err(CompileFault::NoMemory) => Err(Halt::NoMemory),
+    }
+}
+
+// What a fault of reading comes to.
 fn halted(alloc: Global, fault: Fault) -> Halt
     ensures { HaltsAt result fault }
 {

@@ -1,9 +1,9 @@
 ghost use Rattle.std.specs.Prelude.{◌≡◌, ◌⊎◌, Err, IfSome, List, None, Ok, Some, ℕ};
 ghost use Rattle.waf_io.specs.Counts.{Rose};
 ghost use Rattle.agent_main.specs.Check.{checked};
-ghost use Rattle.agent_main.specs.Listings.{rule_under};
+ghost use Rattle.agent_main.specs.Listings.{listing_under};
 ghost use Rattle.agent_main.specs.Report.{Answers, Prints, Reports};
-ghost use Rattle.agent_main.specs.Rule.{DeniedMethod};
+ghost use Rattle.sec_ast.specs.declared.listing.Listing.{Listing};
 ghost use Rattle.agent_main.specs.Run.{Exits};
 ghost use Rattle.agent_main.specs.Words.{conf_named, rules_named, usage_line};
 
@@ -43,14 +43,14 @@ pub fn offline_main<F: Files, S: Source, K: Sink>(
     ensures checked { IfSome (F.content files.old) (λ told. (name : List ℕ) → conf_named words ≡ Some name
         → Answers result (checked told name) (K.held output.old) (K.held output.new)) }
 
-    // A rule file that is refused, where the files are told
-    ensures refused { IfSome (F.content files.old) (λ told. (name line : List ℕ) → rules_named words ≡ Some name → rule_under told name ≡ Err line
+    // Rules that are refused, where the files are told
+    ensures refused { IfSome (F.content files.old) (λ told. (name line : List ℕ) → rules_named words ≡ Some name → listing_under told name ≡ Err line
         → Prints result 3 line (K.held output.old) (K.held output.new)) }
 
-    // The connection under the rule, where files and input are told
+    // The connection under the rules, where files and input are told
     ensures served { IfSome (F.content files.old) (λ told. IfSome (S.left input.old) (λ bytes.
-        (name : List ℕ) (rule : DeniedMethod) → rules_named words ≡ Some name → rule_under told name ≡ Ok rule
-        → Exits result rule 16380 bytes (K.held output.old) (K.held output.new))) }
+        (name : List ℕ) (rules : Listing) → rules_named words ≡ Some name → listing_under told name ≡ Ok rules
+        → Exits result rules 16380 bytes (K.held output.old) (K.held output.new))) }
 
     // Causes, whatever is told
     ensures once_alone { result ≡ 1 → conf_named words ≡ None }

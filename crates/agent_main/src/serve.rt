@@ -1,14 +1,15 @@
 ghost use Rattle.std.specs.Prelude.{◌≡◌, ◌≢◌, ◌<◌, ◌≤◌, IfSome, length, List, None, Option, Some, true, ℕ};
+ghost use Rattle.std.specs.Arc.{arc_value};
 ghost use Rattle.waf_io.specs.Counts.{Rose};
 ghost use Rattle.waf_io.specs.Source.{Reads};
 ghost use Rattle.conn_core.specs.Calls.{At};
 ghost use Rattle.conn_core.specs.Stands.{calls_left, listens, opening, Stands};
-ghost use Rattle.agent_main.specs.RuleSeen.{rule_seen};
 
 use crate::judge::{Talk, begin, enter, finish, leave, look, park, resume, retire};
-use crate::rule::MethodRule;
 use conn_core::{Closing, Conn, Need};
+use sec_compile::Ruleset;
 use std::alloc::Global;
+use std::sync::Arc;
 use waf_io::{Got, Sink, Source, Wrote, write_whole};
 
 // The longest frame that the agent offers to take, and as many bytes as it takes of one connection.
@@ -41,37 +42,36 @@ pub enum Turn {
 ghost use Rattle.agent_main.specs.Connection.{Ends};
 ghost use Rattle.agent_main.specs.Steps.{EndsHere, Hears, Point, Runs, Stepped, Turns};
 
-// Serves one connection under that rule, piece by piece.
+// Serves one connection under those rules, piece by piece.
 pub fn serve<S: Source, K: Sink>(
     alloc: Global,
-    rule: &MethodRule<'_>,
+    rules: &Arc<Ruleset, Global>,
     input: &mut S,
     output: &mut K,
 ) -> End
-    ensures served { IfSome (S.left input.old) (λ bytes. Ends result (rule_seen rule.now) 16380 bytes (K.held output.old) (K.held output.new)) }
+    ensures served { IfSome (S.left input.old) (λ bytes. Ends result (arc_value rules.now) 16380 bytes (K.held output.old) (K.held output.new)) }
     ensures read_fault { result ≡ End.ReadFault → Rose (S.faults input.old) (S.faults input.new) }
     ensures write_fault { result ≡ End.WriteFault → Rose (K.faults output.old) (K.faults output.new) }
 {
     let Ok(mut talk) = Conn::new(alloc, OWN_SIZE) else {
         return End::NoMemory;
     };
-    let end = serve_pieces(rule, &mut talk, input, output);
-    let_go(talk);
+    let end = serve_pieces(alloc, rules, &mut talk, input, output);
+    let _ = talk.let_go();
     end
 }
 
-fn let_go(_talk: Talk) {}
-
 // Hears the input piece by piece, up to the end of the connection.
 fn serve_pieces<S: Source, K: Sink>(
-    rule: &MethodRule<'_>,
+    alloc: Global,
+    rules: &Arc<Ruleset, Global>,
     talk: &mut Talk,
     input: &mut S,
     output: &mut K,
 ) -> End
     requires stands { Stands talk.old (opening 16380) }
     requires listens { listens talk.old ≡ true }
-    ensures served { IfSome (S.left input.old) (λ bytes. Ends result (rule_seen rule.now) 16380 bytes (K.held output.old) (K.held output.new)) }
+    ensures served { IfSome (S.left input.old) (λ bytes. Ends result (arc_value rules.now) 16380 bytes (K.held output.old) (K.held output.new)) }
     ensures read_fault { result ≡ End.ReadFault → Rose (S.faults input.old) (S.faults input.new) }
     ensures write_fault { result ≡ End.WriteFault → Rose (K.faults output.old) (K.faults output.new) }
 {
@@ -81,11 +81,11 @@ fn serve_pieces<S: Source, K: Sink>(
         let room = (MOST_BYTES - taken).min(4096) as usize;
         match read_piece(input, room, &mut buffer) {
             Got::Failed => return End::ReadFault,
-            Got::End => return hear_end(rule, talk, output),
+            Got::End => return hear_end(alloc, rules, talk, output),
             Got::Bytes(count) => {
                 taken += count;
                 let piece = buffer.split_at(count as usize).0;
-                if let Some(end) = hear(rule, piece, talk, output) {
+                if let Some(end) = hear(alloc, rules, piece, talk, output) {
                     return end;
                 }
             }
@@ -109,19 +109,20 @@ fn read_piece<S: Source>(input: &mut S, room: usize, buffer: &mut [u8]) -> Got
 
 // A piece of the input comes; `Some` where the connection ends with it.
 fn hear<K: Sink>(
-    rule: &MethodRule<'_>,
+    alloc: Global,
+    rules: &Arc<Ruleset, Global>,
     piece: &[u8],
     talk: &mut Talk,
     output: &mut K,
 ) -> Option<End>
-    requires { (old : Option (List ℕ)) × (s : Point) × Runs (rule_seen rule.now) talk.old s old (K.held output.old) }
-    ensures heard { Hears (rule_seen rule.now) piece.now result talk.old talk.new (K.held output.old) (K.held output.new) }
+    requires { (old : Option (List ℕ)) × (s : Point) × Runs (arc_value rules.now) talk.old s old (K.held output.old) }
+    ensures heard { Hears (arc_value rules.now) piece.now result talk.old talk.new (K.held output.old) (K.held output.new) }
     ensures later { K.faults output.old ≤ K.faults output.new }
     ensures no_read { result ≢ Some End.ReadFault }
     ensures cause { result ≡ Some End.WriteFault → Rose (K.faults output.old) (K.faults output.new) }
 {
     talk.feed(piece);
-    match advance(rule, talk, output) {
+    match advance(alloc, rules, talk, output) {
         Turn::Waits => None,
         Turn::Closes(how) => Some(End::Closed(how)),
         Turn::Fails => Some(End::WriteFault),
@@ -129,15 +130,20 @@ fn hear<K: Sink>(
 }
 
 // The input has ended, and with it the connection.
-fn hear_end<K: Sink>(rule: &MethodRule<'_>, talk: &mut Talk, output: &mut K) -> End
-    requires runs { (old : Option (List ℕ)) × (s : Point) × Runs (rule_seen rule.now) talk.old s old (K.held output.old) }
+fn hear_end<K: Sink>(
+    alloc: Global,
+    rules: &Arc<Ruleset, Global>,
+    talk: &mut Talk,
+    output: &mut K,
+) -> End
+    requires runs { (old : Option (List ℕ)) × (s : Point) × Runs (arc_value rules.now) talk.old s old (K.held output.old) }
     requires listens { listens talk.old ≡ true }
-    ensures ended { EndsHere (rule_seen rule.now) result talk.old talk.new (K.held output.old) (K.held output.new) }
+    ensures ended { EndsHere (arc_value rules.now) result talk.old talk.new (K.held output.old) (K.held output.new) }
     ensures no_read { result ≢ End.ReadFault }
     ensures cause { result ≡ End.WriteFault → Rose (K.faults output.old) (K.faults output.new) }
 {
     talk.end();
-    match advance(rule, talk, output) {
+    match advance(alloc, rules, talk, output) {
         Turn::Waits => unreachable!(),
         Turn::Closes(how) => End::Closed(how),
         Turn::Fails => End::WriteFault,
@@ -145,23 +151,33 @@ fn hear_end<K: Sink>(rule: &MethodRule<'_>, talk: &mut Talk, output: &mut K) -> 
 }
 
 // Does what the connection needs, up to the next bytes, or its close.
-fn advance<K: Sink>(rule: &MethodRule<'_>, talk: &mut Talk, output: &mut K) -> Turn
-    requires { (old : Option (List ℕ)) × (s : Point) × Runs (rule_seen rule.now) talk.old s old (K.held output.old) }
-    ensures turns { Turns (rule_seen rule.now) result talk.old talk.new (K.held output.old) (K.held output.new) }
+fn advance<K: Sink>(
+    alloc: Global,
+    rules: &Arc<Ruleset, Global>,
+    talk: &mut Talk,
+    output: &mut K,
+) -> Turn
+    requires { (old : Option (List ℕ)) × (s : Point) × Runs (arc_value rules.now) talk.old s old (K.held output.old) }
+    ensures turns { Turns (arc_value rules.now) result talk.old talk.new (K.held output.old) (K.held output.new) }
     ensures later { K.faults output.old ≤ K.faults output.new }
     ensures cause { result ≡ Turn.Fails → Rose (K.faults output.old) (K.faults output.new) }
 {
     loop {
-        if let Some(turn) = step(rule, talk, output) {
+        if let Some(turn) = step(alloc, rules, talk, output) {
             return turn;
         }
     }
 }
 
 // Does the next thing that the connection needs; `Some` where that is bytes, or its close.
-fn step<K: Sink>(rule: &MethodRule<'_>, talk: &mut Talk, output: &mut K) -> Option<Turn>
-    requires { (old : Option (List ℕ)) × (s : Point) × Runs (rule_seen rule.now) talk.old s old (K.held output.old) }
-    ensures stepped { Stepped (rule_seen rule.now) result talk.old talk.new (K.held output.old) (K.held output.new) }
+fn step<K: Sink>(
+    alloc: Global,
+    rules: &Arc<Ruleset, Global>,
+    talk: &mut Talk,
+    output: &mut K,
+) -> Option<Turn>
+    requires { (old : Option (List ℕ)) × (s : Point) × Runs (arc_value rules.now) talk.old s old (K.held output.old) }
+    ensures stepped { Stepped (arc_value rules.now) result talk.old talk.new (K.held output.old) (K.held output.new) }
     ensures fewer { result ≡ None → calls_left talk.new < calls_left talk.old }
     ensures later { K.faults output.old ≤ K.faults output.new }
     ensures cause { result ≡ Some Turn.Fails → Rose (K.faults output.old) (K.faults output.new) }
@@ -179,7 +195,7 @@ fn step<K: Sink>(rule: &MethodRule<'_>, talk: &mut Talk, output: &mut K) -> Opti
             None
         }
         Need::Begin => {
-            begin(rule, talk);
+            begin(alloc, rules, talk);
             None
         }
         Need::Park => {
@@ -191,7 +207,7 @@ fn step<K: Sink>(rule: &MethodRule<'_>, talk: &mut Talk, output: &mut K) -> Opti
             None
         }
         Need::Retire => {
-            retire(talk);
+            retire(alloc, talk);
             None
         }
         Need::Resume => {
@@ -208,7 +224,7 @@ fn step<K: Sink>(rule: &MethodRule<'_>, talk: &mut Talk, output: &mut K) -> Opti
 // Writes what is to be written.
 fn write<K: Sink>(talk: &mut Talk, output: &mut K) -> Option<Turn>
     requires { At Need.Write talk.old.broken talk.old.stage }
-    ensures stepped { (rule : _) → Stepped rule result talk.old talk.new (K.held output.old) (K.held output.new) }
+    ensures stepped { (rules : _) → Stepped rules result talk.old talk.new (K.held output.old) (K.held output.new) }
     ensures fewer { result ≡ None → calls_left talk.new < calls_left talk.old }
     ensures later { K.faults output.old ≤ K.faults output.new }
     ensures cause { result ≡ Some Turn.Fails → Rose (K.faults output.old) (K.faults output.new) }
@@ -225,7 +241,7 @@ fn write<K: Sink>(talk: &mut Talk, output: &mut K) -> Option<Turn>
 // How it closed.
 fn closed(talk: &Talk) -> Turn
     requires { At Need.Close talk.now.broken talk.now.stage }
-    ensures turns { (rule : _) (held : Option (List ℕ)) → Turns rule result talk.now talk.now held held }
+    ensures turns { (rules : _) (held : Option (List ℕ)) → Turns rules result talk.now talk.now held held }
     ensures closes { result ≢ Turn.Fails }
 {
     match talk.closing() {

@@ -376,16 +376,122 @@ fn a_request_cut_after_each_byte(rt: HostRuntime) -> Result<(), Fail> {
     Ok(())
 }
 
+// A request without more, one with a form, and the answer to one that passes.
+const GET_ALONE: &[u8] =
+    b"\x00\x00\x00&\x03\x00\x00\x00\x01\x07\x01\x0acoraza-req\x02\x02id\x08\x02a1\x06method\x08\x03GET";
+
+const FORM: &[u8] =
+    b"\x00\x00\x00{\x03\x00\x00\x00\x01\x07\x01\x0acoraza-req\x05\x02id\x08\x02a1\x06method\x08\x04POST\x04path\x08\x02/p\x07headers\x083content-type: application/x-www-form-urlencoded\x0d\x0a\x0d\x0a\x04body\x09\x07a=12345";
+
+const PASSED: &[u8] = b"\x00\x00\x00\x11g\x00\x00\x00\x01\x07\x01\x01\x03\x02\x02id\x08\x02a1";
+
+// Rules, and what they answer to a request.
+struct Judged {
+    what: &'static str,
+    rules: &'static [u8],
+    said: &'static [u8],
+    answered: &'static [u8],
+}
+
+const JUDGED: &[Judged] = &[
+    Judged {
+        what: "no rules",
+        rules: b"",
+        said: GET_ALONE,
+        answered: PASSED,
+    },
+    Judged {
+        what: "what the first link of a chain sets stays, and the chain does not deny",
+        rules: b"SecRule REQUEST_METHOD \"@streq GET\" \"id:1,phase:1,deny,nolog,setvar:tx.a=1,chain\"\nSecRule REQUEST_URI \"@streq /no\" \"chain\"\nSecRule REQUEST_PROTOCOL \"@unconditionalMatch\"\nSecRule TX:a \"@eq 1\" \"id:2,phase:1,deny,status:401\"\n",
+        said: GET_ALONE,
+        answered: b"\x00\x00\x00:g\x00\x00\x00\x01\x07\x01\x01\x03\x02\x02id\x08\x02a1\x01\x03\x02\x06action\x08\x04deny\x01\x03\x02\x06status\x03\xf1\x0a\x01\x03\x02\x06ruleid\x03\x02",
+    },
+    Judged {
+        what: "a marker ends a jump in its own phase alone",
+        rules: b"SecRule REQUEST_METHOD \"@streq GET\" \"id:1,phase:1,pass,nolog,skipAfter:END\"\nSecAction \"id:2,phase:2,nolog,pass,setvar:tx.two=1\"\nSecAction \"id:3,phase:1,nolog,deny\"\nSecMarker END\nSecRule &TX:two \"@eq 1\" \"id:4,phase:2,drop,status:410\"\n",
+        said: GET_ALONE,
+        answered: b"\x00\x00\x00:g\x00\x00\x00\x01\x07\x01\x01\x03\x02\x02id\x08\x02a1\x01\x03\x02\x06action\x08\x04drop\x01\x03\x02\x06status\x03\xfa\x0a\x01\x03\x02\x06ruleid\x03\x04",
+    },
+    Judged {
+        what: "detection alone stops nothing",
+        rules: b"SecRuleEngine DetectionOnly\nSecAction \"id:1,phase:1,deny\"\n",
+        said: GET_ALONE,
+        answered: PASSED,
+    },
+    Judged {
+        what: "an engine that a rule has switched off looks at none",
+        rules: b"SecAction \"id:1,phase:1,pass,ctl:ruleEngine=Off\"\nSecAction \"id:2,phase:1,deny\"\n",
+        said: GET_ALONE,
+        answered: PASSED,
+    },
+    Judged {
+        what: "a redirection, whose status is none of one",
+        rules: b"SecAction \"id:1,phase:1,redirect:/at%{REQUEST_METHOD},status:404\"\n",
+        said: GET_ALONE,
+        answered: b"\x00\x00\x00Ng\x00\x00\x00\x01\x07\x01\x01\x03\x02\x02id\x08\x02a1\x01\x03\x02\x06action\x08\x08redirect\x01\x03\x02\x06status\x03\xfe\x03\x01\x03\x02\x04data\x08\x06/atGET\x01\x03\x02\x06ruleid\x03\x01",
+    },
+    Judged {
+        what: "a removed rule counts where rules are skipped",
+        rules: b"SecAction \"id:1,phase:1,pass,skip:1,ctl:ruleRemoveById=2\"\nSecAction \"id:2,phase:1,pass\"\nSecAction \"id:3,phase:1,deny\"\n",
+        said: GET_ALONE,
+        answered: b"\x00\x00\x00:g\x00\x00\x00\x01\x07\x01\x01\x03\x02\x02id\x08\x02a1\x01\x03\x02\x06action\x08\x04deny\x01\x03\x02\x06status\x03\xf3\x0a\x01\x03\x02\x06ruleid\x03\x03",
+    },
+    Judged {
+        what: "allow passes over the phases that are left",
+        rules: b"SecAction \"id:1,phase:1,allow\"\nSecAction \"id:2,phase:2,deny\"\n",
+        said: GET_ALONE,
+        answered: PASSED,
+    },
+    Judged {
+        what: "a body over the limit",
+        rules: b"SecRequestBodyLimit 6\nSecAction \"id:1,phase:2,deny\"\n",
+        said: FORM,
+        answered: b"\x00\x00\x00:g\x00\x00\x00\x01\x07\x01\x01\x03\x02\x02id\x08\x02a1\x01\x03\x02\x06action\x08\x04deny\x01\x03\x02\x06status\x03\xfd\x0a\x01\x03\x02\x06ruleid\x03\x00",
+    },
+    Judged {
+        what: "a body over the limit, read in part",
+        rules: b"SecRequestBodyLimit 6\nSecRequestBodyLimitAction ProcessPartial\nSecRule ARGS_POST:a \"@streq 1234\" \"id:1,phase:2,deny\"\n",
+        said: FORM,
+        answered: b"\x00\x00\x00:g\x00\x00\x00\x01\x07\x01\x01\x03\x02\x02id\x08\x02a1\x01\x03\x02\x06action\x08\x04deny\x01\x03\x02\x06status\x03\xf3\x0a\x01\x03\x02\x06ruleid\x03\x01",
+    },
+    Judged {
+        what: "captured groups and the matched name stand in a location",
+        rules: b"SecRule ARGS \"@rx ([0-9])([0-9])\" \"id:1,phase:2,capture,redirect:/%{TX.2}%{TX.1}/%{MATCHED_VAR_NAME}\"\n",
+        said: FORM,
+        answered: b"\x00\x00\x00Rg\x00\x00\x00\x01\x07\x01\x01\x03\x02\x02id\x08\x02a1\x01\x03\x02\x06action\x08\x08redirect\x01\x03\x02\x06status\x03\xfe\x03\x01\x03\x02\x04data\x08\x0a/21/ARGS:a\x01\x03\x02\x06ruleid\x03\x01",
+    },
+];
+
+// Whether the rules answer so.
+fn is_judged_so(alloc: Global, row: &Judged) -> Result<bool, NoMemory> {
+    let input = both(alloc, HELLO, row.said)?;
+    let wanted = both(alloc, ANSWER, row.answered)?;
+    let mut input = source(alloc, input.as_slice(), &[])?;
+    let (_, written) = run(alloc, row.rules, &mut input, &[])?;
+    Ok(written.as_slice() == wanted.as_slice())
+}
+
+#[test]
+fn requests_judged_by_rules(rt: HostRuntime) -> Result<(), Fail> {
+    for row in JUDGED {
+        assert!(rt; is_judged_so(rt.alloc(), row)?, "{}", row.what);
+    }
+    Ok(())
+}
+
 // Rule files, and what is printed where they are refused.
 const RULE_FILES: &[(&[u8], &[u8])] = &[
-    (b"", b"not built yet\n"),
     (
-        b"SecRule REQUEST_METHOD \"@streq post\" \"id:100,phase:1,deny\"",
-        b"not built yet\n",
+        b"SecMarker A\nSecRule ARGS \"@rx (\" \"id:7,phase:2,deny\"",
+        b"rules:2: BadPattern 7\n",
     ),
     (
-        b"SecRule REQUEST_METHOD \"@streq POST\" \"id:100,phase:1,deny,nolog\"",
-        b"not built yet\n",
+        b"SecRule ARGS|!ARGS:/(/ \"@streq a\" \"id:8,phase:2,deny\"\nSecFoo On",
+        b"rules:2: UnknownDirective SecFoo\n",
+    ),
+    (
+        b"SecRule ARGS|!ARGS:/(/ \"@streq a\" \"id:8,phase:2,deny\"",
+        b"rules:1: BadPattern 8\n",
     ),
     (
         b"SecRule REQUEST_METHOD \"@streq POST\" \"id:0100,phase:1,deny\"",
@@ -517,6 +623,17 @@ const REFUSED: &[(&[(&[u8], &[u8])], &[u8])] = &[
     (
         &[(b"etc/agent.toml", TWO_APPS), (b"etc/a.conf", RULES)],
         b"/b.conf: NoFile\n",
+    ),
+    (
+        &[
+            (b"etc/agent.toml", TWO_APPS),
+            (
+                b"etc/a.conf",
+                b"SecRule ARGS \"@rx (\" \"id:7,phase:2,deny\"",
+            ),
+            (b"/b.conf", b"SecMarker END"),
+        ],
+        b"etc/a.conf:1: BadPattern 7\n",
     ),
 ];
 

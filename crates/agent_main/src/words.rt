@@ -1,8 +1,8 @@
+ghost use Rattle.std.specs.Str.{bytes_eq};
 ghost use Rattle.std.specs.Prelude.{◌≡◌};
 ghost use Rattle.std.specs.Option.{option_map};
 ghost use Rattle.agent_main.specs.Words.{named_by};
 
-use crate::reading::is_same;
 use waf_plain::Bytes;
 
 // The name behind a command, where the words are that command and one more that is not empty.
@@ -17,4 +17,10 @@ pub fn named_by<'a>(command: &[u8], words: &'a [Bytes]) -> Option<&'a [u8]>
     } else {
         None
     }
+}
+
+fn is_same(a: &[u8], b: &[u8]) -> bool
+    ensures { result ≡ bytes_eq a.now b.now }
+{
+    a == b
 }

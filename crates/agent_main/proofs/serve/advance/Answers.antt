@@ -1,5 +1,5 @@
+use Rattle.std.specs.Arc.{arc_value}
 use Rattle.std.proofs.Common.{arith}
-use Rattle.agent_main.specs.RuleSeen.{rule_seen}
 use Rattle.agent_main.proofs.Moving.{acts_on, turns_on}
 use Rattle.agent_main.proofs.serve.advance.Goals as goal
 
@@ -9,10 +9,10 @@ step-requires g c =
     (c.requires.0, x.0, x.1)
 
 pub returns-in-Some-clause-turns : goal.returns-in-Some-clause-turns
-returns-in-Some-clause-turns g c = turns_on (rule_seen c.args.rule.now) c.in-Some.turn _ _ _ _ _ _ c.loop-turn.invariant.acts c.in-Some.ensures.stepped
+returns-in-Some-clause-turns g c = turns_on (arc_value c.args.rules.now) c.in-Some.turn _ _ _ _ _ _ c.loop-turn.invariant.acts c.in-Some.ensures.stepped
 
 pub loop-turn-preserved : goal.loop-turn-preserved
 loop-turn-preserved g c = record {
-  acts = acts_on (rule_seen c.args.rule.now) _ _ _ _ _ _ c.loop-turn.invariant.acts c.in_default.ensures.stepped;
+  acts = acts_on (arc_value c.args.rules.now) _ _ _ _ _ _ c.loop-turn.invariant.acts c.in_default.ensures.stepped;
   later = omega (arith, c.loop-turn.invariant.later, c.step.ensures.later);
 }

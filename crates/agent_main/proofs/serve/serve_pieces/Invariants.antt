@@ -1,5 +1,5 @@
+use Rattle.std.specs.Arc.{arc_value}
 use Rattle.std.proofs.Common.{◌≤◌, ◌-◌}
-use Rattle.agent_main.specs.RuleSeen.{rule_seen}
 use Rattle.agent_main.proofs.Serving.{Serving}
 use Rattle.agent_main.proofs.serve.serve_pieces.Given as goal
 
@@ -8,7 +8,7 @@ invariant-loop-taken g l =
     let source = g.S.Source in
     let sink = g.K.Sink in
     record {
-      serving : Serving (rule_seen l.rule) (source.left l.fn.input) (source.left l.input) l.taken l.talk (sink.held l.fn.output) (sink.held l.output);
+      serving : Serving (arc_value l.rules) (source.left l.fn.input) (source.left l.input) l.taken l.talk (sink.held l.fn.output) (sink.held l.output);
       few : l.taken ≤ 4611686018427387904;
       reads : source.faults l.fn.input ≤ source.faults l.input;
       writes : sink.faults l.fn.output ≤ sink.faults l.output;

@@ -1,0 +1,56 @@
+ghost use Rattle.std.specs.Prelude.{◌≡◌, ◌<◌, IfOk};
+ghost use Rattle.std.specs.Arc.{arc_value};
+ghost use Rattle.tx_core.specs.Halves.{BeginsAs};
+
+use sec_compile::Ruleset;
+use std::alloc::Global;
+use std::marker::Brand;
+use std::sync::Arc;
+use std::sync::ledger::{Blank, Ledger};
+use tx_core::{Begun, Half, begin, retire};
+use waf_plain::{NoMemory, Steps};
+use web_parts::Request;
+
+// The generation of the rules, which are read once.
+pub const GENERATION: u64 = 1;
+
+// Judges a request by these rules. Its steps are counted for contracts alone.
+pub fn begun(
+    alloc: Global,
+    rules: &Arc<Ruleset, Global>,
+    request: Request,
+) -> Result<Begun, NoMemory>
+    ensures { IfOk result (λ begun. BeginsAs (arc_value rules.now) 1 request begun) }
+{
+    begun_in::<Brand>(alloc, rules, request, Blank::new(1))
+}
+
+fn begun_in<L: Ledger>(
+    alloc: Global,
+    rules: &Arc<Ruleset, Global>,
+    request: Request,
+    blank: Blank,
+) -> Result<Begun, NoMemory>
+    requires name { blank.name ≡ L.name }
+    requires parts { blank.parts ≡ L.parts }
+    requires some { 0 < L.parts }
+    ensures { IfOk result (λ begun. BeginsAs (arc_value rules.now) 1 request begun) }
+{
+    let mut steps = Steps::<L>::start(blank);
+    begin(alloc, rules.clone()?, GENERATION, request, &mut steps)
+}
+
+// Ends a request that goes on to no response, and says whether there was memory. Its lines are asked
+// for by nobody.
+pub fn retired(alloc: Global, half: Half) -> bool {
+    retired_in::<Brand>(alloc, half, Blank::new(1))
+}
+
+fn retired_in<L: Ledger>(alloc: Global, half: Half, blank: Blank) -> bool
+    requires name { blank.name ≡ L.name }
+    requires parts { blank.parts ≡ L.parts }
+    requires some { 0 < L.parts }
+{
+    let mut steps = Steps::<L>::start(blank);
+    retire(alloc, half, &mut steps).is_ok()
+}
