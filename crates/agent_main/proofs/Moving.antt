@@ -1,5 +1,5 @@
 -- From one state of a connection to the next.
-use Rattle.std.proofs.Common.{◌≡◌, ◌⊎◌, inl, inr, ℕ, Bool, true, false, List, [], ◌∷◌, ◌++◌, Option, refl, sym, ◌∙◌, ap, subst, append_assoc}
+use Rattle.std.proofs.Common.{◌≡◌, ℕ, Bool, true, false, List, [], ◌∷◌, ◌++◌, Option, refl, sym, ◌∙◌, ap, subst, append_assoc}
 use Rattle.std.proofs.lemmas.List.{append-nil}
 use Rattle.std.proofs.lemmas.Grind.{flat_map-append}
 use Rattle.waf_io.specs.Sink.{Adds}
@@ -10,7 +10,7 @@ use Rattle.conn_core.specs.declared.answer.BegunAnswer as answers
 use Rattle.conn_core.specs.declared.answer.BegunAnswer.TheVariants as beguns
 use Rattle.conn_core.specs.Calls.{begun_with}
 use Rattle.conn_core.specs.Stands.{Stands, served}
-use Rattle.conn_core.specs.Trace.{Begin, Write, trace}
+use Rattle.conn_core.specs.Trace.{Begin, Write}
 use Rattle.tx_core.specs.HalfView.{HalfView}
 use Rattle.agent_main.specs.declared.judge.TheRules.{TheRules}
 use Rattle.agent_main.specs.declared.serve.Turn as turn

@@ -1,5 +1,5 @@
 -- What the judge answers to each need of a connection, under the rules of a listing.
-use Rattle.std.specs.Prelude.{◌≡◌, ℕ, false, List, [], ◌∷◌, Option, Some, None}
+use Rattle.std.specs.Prelude.{◌≡◌, false, List, [], ◌∷◌, Option, Some, None}
 use Rattle.std.specs.List.{flat_map}
 use Rattle.web_parts.specs.declared.transaction.Request.{Request}
 use Rattle.sec_ast.specs.declared.listing.Listing.{Listing}

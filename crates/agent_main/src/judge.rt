@@ -89,14 +89,14 @@ pub fn leave(talk: &mut Talk)
     let _ = talk.take_leave();
 }
 
-// A request that passed has its last phase.
+// A request that passed has its last phase, whose lines nobody asks for.
 pub fn retire(alloc: Global, talk: &mut Talk)
     requires { At Need.Retire talk.old.broken talk.old.stage }
     ensures acts { (rules : _) (held : Option (List ℕ)) → Acts rules talk.old talk.new held held }
     ensures fewer { calls_left talk.new < calls_left talk.old }
 {
     let half = talk.take_retire();
-    talk.give_retired(retired(alloc, half));
+    talk.give_retired(retired(alloc, half).is_ok());
 }
 
 // No request is parked.

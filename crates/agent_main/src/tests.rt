@@ -401,28 +401,10 @@ const JUDGED: &[Judged] = &[
         answered: PASSED,
     },
     Judged {
-        what: "what the first link of a chain sets stays, and the chain does not deny",
-        rules: b"SecRule REQUEST_METHOD \"@streq GET\" \"id:1,phase:1,deny,nolog,setvar:tx.a=1,chain\"\nSecRule REQUEST_URI \"@streq /no\" \"chain\"\nSecRule REQUEST_PROTOCOL \"@unconditionalMatch\"\nSecRule TX:a \"@eq 1\" \"id:2,phase:1,deny,status:401\"\n",
-        said: GET_ALONE,
-        answered: b"\x00\x00\x00:g\x00\x00\x00\x01\x07\x01\x01\x03\x02\x02id\x08\x02a1\x01\x03\x02\x06action\x08\x04deny\x01\x03\x02\x06status\x03\xf1\x0a\x01\x03\x02\x06ruleid\x03\x02",
-    },
-    Judged {
         what: "a marker ends a jump in its own phase alone",
         rules: b"SecRule REQUEST_METHOD \"@streq GET\" \"id:1,phase:1,pass,nolog,skipAfter:END\"\nSecAction \"id:2,phase:2,nolog,pass,setvar:tx.two=1\"\nSecAction \"id:3,phase:1,nolog,deny\"\nSecMarker END\nSecRule &TX:two \"@eq 1\" \"id:4,phase:2,drop,status:410\"\n",
         said: GET_ALONE,
         answered: b"\x00\x00\x00:g\x00\x00\x00\x01\x07\x01\x01\x03\x02\x02id\x08\x02a1\x01\x03\x02\x06action\x08\x04drop\x01\x03\x02\x06status\x03\xfa\x0a\x01\x03\x02\x06ruleid\x03\x04",
-    },
-    Judged {
-        what: "detection alone stops nothing",
-        rules: b"SecRuleEngine DetectionOnly\nSecAction \"id:1,phase:1,deny\"\n",
-        said: GET_ALONE,
-        answered: PASSED,
-    },
-    Judged {
-        what: "an engine that a rule has switched off looks at none",
-        rules: b"SecAction \"id:1,phase:1,pass,ctl:ruleEngine=Off\"\nSecAction \"id:2,phase:1,deny\"\n",
-        said: GET_ALONE,
-        answered: PASSED,
     },
     Judged {
         what: "a redirection, whose status is none of one",
@@ -431,28 +413,10 @@ const JUDGED: &[Judged] = &[
         answered: b"\x00\x00\x00Ng\x00\x00\x00\x01\x07\x01\x01\x03\x02\x02id\x08\x02a1\x01\x03\x02\x06action\x08\x08redirect\x01\x03\x02\x06status\x03\xfe\x03\x01\x03\x02\x04data\x08\x06/atGET\x01\x03\x02\x06ruleid\x03\x01",
     },
     Judged {
-        what: "a removed rule counts where rules are skipped",
-        rules: b"SecAction \"id:1,phase:1,pass,skip:1,ctl:ruleRemoveById=2\"\nSecAction \"id:2,phase:1,pass\"\nSecAction \"id:3,phase:1,deny\"\n",
-        said: GET_ALONE,
-        answered: b"\x00\x00\x00:g\x00\x00\x00\x01\x07\x01\x01\x03\x02\x02id\x08\x02a1\x01\x03\x02\x06action\x08\x04deny\x01\x03\x02\x06status\x03\xf3\x0a\x01\x03\x02\x06ruleid\x03\x03",
-    },
-    Judged {
-        what: "allow passes over the phases that are left",
-        rules: b"SecAction \"id:1,phase:1,allow\"\nSecAction \"id:2,phase:2,deny\"\n",
-        said: GET_ALONE,
-        answered: PASSED,
-    },
-    Judged {
         what: "a body over the limit",
         rules: b"SecRequestBodyLimit 6\nSecAction \"id:1,phase:2,deny\"\n",
         said: FORM,
         answered: b"\x00\x00\x00:g\x00\x00\x00\x01\x07\x01\x01\x03\x02\x02id\x08\x02a1\x01\x03\x02\x06action\x08\x04deny\x01\x03\x02\x06status\x03\xfd\x0a\x01\x03\x02\x06ruleid\x03\x00",
-    },
-    Judged {
-        what: "a body over the limit, read in part",
-        rules: b"SecRequestBodyLimit 6\nSecRequestBodyLimitAction ProcessPartial\nSecRule ARGS_POST:a \"@streq 1234\" \"id:1,phase:2,deny\"\n",
-        said: FORM,
-        answered: b"\x00\x00\x00:g\x00\x00\x00\x01\x07\x01\x01\x03\x02\x02id\x08\x02a1\x01\x03\x02\x06action\x08\x04deny\x01\x03\x02\x06status\x03\xf3\x0a\x01\x03\x02\x06ruleid\x03\x01",
     },
     Judged {
         what: "captured groups and the matched name stand in a location",

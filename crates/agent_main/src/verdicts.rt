@@ -1,14 +1,15 @@
 ghost use Rattle.std.specs.Prelude.{◌≡◌, ◌<◌, IfOk};
 ghost use Rattle.std.specs.Arc.{arc_value};
-ghost use Rattle.tx_core.specs.Halves.{BeginsAs};
+ghost use Rattle.tx_core.specs.Halves.{BeginsAs, RetiresAs};
 
+use sec_ast::LogLine;
 use sec_compile::Ruleset;
 use std::alloc::Global;
 use std::marker::Brand;
 use std::sync::Arc;
 use std::sync::ledger::{Blank, Ledger};
 use tx_core::{Begun, Half, begin, retire};
-use waf_plain::{NoMemory, Steps};
+use waf_plain::{NoMemory, Seq, Steps};
 use web_parts::Request;
 
 // The generation of the rules, which are read once.
@@ -40,17 +41,19 @@ fn begun_in<L: Ledger>(
     begin(alloc, rules.clone()?, GENERATION, request, &mut steps)
 }
 
-// Ends a request that goes on to no response, and says whether there was memory. Its lines are asked
-// for by nobody.
-pub fn retired(alloc: Global, half: Half) -> bool {
+// Ends a request that goes on to no response, with the lines of its last phase.
+pub fn retired(alloc: Global, half: Half) -> Result<Seq<LogLine>, NoMemory>
+    ensures { IfOk result (λ lines. RetiresAs half lines) }
+{
     retired_in::<Brand>(alloc, half, Blank::new(1))
 }
 
-fn retired_in<L: Ledger>(alloc: Global, half: Half, blank: Blank) -> bool
+fn retired_in<L: Ledger>(alloc: Global, half: Half, blank: Blank) -> Result<Seq<LogLine>, NoMemory>
     requires name { blank.name ≡ L.name }
     requires parts { blank.parts ≡ L.parts }
     requires some { 0 < L.parts }
+    ensures { IfOk result (λ lines. RetiresAs half lines) }
 {
     let mut steps = Steps::<L>::start(blank);
-    retire(alloc, half, &mut steps).is_ok()
+    retire(alloc, half, &mut steps)
 }

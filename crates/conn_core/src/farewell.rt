@@ -1,4 +1,4 @@
-ghost use Rattle.std.specs.Prelude.{◌≡◌};
+ghost use Rattle.std.specs.Prelude.{◌≡◌, IfOk};
 ghost use Rattle.spop_hello.specs.Frames.{disconnect};
 
 use spop_hello::disconnect_frame;
@@ -24,7 +24,9 @@ impl Model for Farewell {
 }
 
 impl Farewell {
-    pub(crate) fn new(alloc: Global) -> Result<Farewell, NoMemory> {
+    pub(crate) fn new(alloc: Global) -> Result<Farewell, NoMemory>
+        ensures { IfOk result (λ farewell. farewell ≡ disconnect 13) }
+    {
         let mut bytes = Bytes::new(alloc);
         disconnect_frame(alloc, 13, &mut bytes)?;
         Ok(Farewell { bytes })

@@ -13,7 +13,7 @@ use Rattle.sec_ast.specs.declared.variable.Var.{Var}
 use Rattle.sec_text.specs.Quotes.{is_blank, quoted}
 use Rattle.sec_text.specs.Readers.{Takes}
 use Rattle.sec_text.specs.Written.{ends_with_backslash}
-use Rattle.sec_parts.specs.Targets.{by_name, fits, found, behind_name, marked, name_select, next_target, one_target, selected, selector_of, target_at, targets_of, unmarked}
+use Rattle.sec_parts.specs.Targets.{by_name, fits, found, behind_name, marked, name_select, next_target, one_target, selector_of, target_at, targets_of, unmarked}
 use Rattle.sec_parts.specs.Targets as read
 use Rattle.sec_parts.specs.Texts.{behind_first, ends_open, skip_blanks, to_byte, to_either, trim, trim_end}
 use Rattle.sec_parts.specs.Variables.{is_refused_variable}

@@ -1,7 +1,7 @@
 ghost use Rattle.std.specs.Prelude.{◌≡◌, ◌+◌, decimal, Some, position, IfOk};
 ghost use Rattle.std.specs.Str.{str_eq_ignore_ascii_case};
 ghost use Rattle.sec_collect.specs.Row.{size_of};
-ghost use Rattle.sec_collect.specs.Body.{chosen, ends_media_type, flag_text, is_form, is_form_type, is_longer, is_urlencoded, left_of, media_type, posted};
+ghost use Rattle.sec_collect.specs.Body.{ends_media_type, flag_text, is_form, is_form_type, is_longer, is_urlencoded, left_of, media_type, posted};
 
 use crate::OpenedBody;
 use crate::request::value_named;
@@ -34,7 +34,8 @@ fn end_of_media_type(value: &[u8]) -> Option<usize>
     value.iter().position(|byte| ends_media_type(*byte))
 }
 
-fn is_form(headers: &[NameValue]) -> bool
+/// Whether the media type of the header fields is that of a form.
+pub(crate) fn is_form(headers: &[NameValue]) -> bool
     ensures { result ≡ is_form headers.now }
 {
     is_form_type(media_type(headers))
@@ -50,23 +51,6 @@ fn is_same_word(word: &[u8], text: &[u8]) -> bool
     ensures { result ≡ str_eq_ignore_ascii_case word.now text.now }
 {
     word.eq_ignore_ascii_case(text)
-}
-
-/// The processor that `ctl` chose, or else the one that the media type of the header fields chooses.
-pub(crate) fn chosen(processor: Processor, headers: &[NameValue]) -> Processor
-    ensures { result ≡ chosen processor headers.now }
-{
-    match processor {
-        Processor::Plain => {
-            if is_form(headers) {
-                Processor::Urlencoded
-            } else {
-                Processor::Plain
-            }
-        }
-        Processor::Urlencoded => Processor::Urlencoded,
-        Processor::Xml => Processor::Xml,
-    }
 }
 
 fn is_urlencoded(processor: Processor) -> bool

@@ -3,11 +3,11 @@ ghost use Rattle.sec_collect.specs.Row.{value_named};
 ghost use Rattle.sec_collect.specs.Response.{content_type_in};
 ghost use Rattle.sec_collect.specs.Request.{basename, host_of, is_slash, line_text, port_text, protocol_text, server_name, uri_text};
 
-use crate::pieces::{before, through, trimmed};
+use crate::pieces::{before, through};
 use crate::sizes::is_named;
 use std::alloc::Global;
 use waf_plain::{Bytes, NoMemory};
-use web_parts::{NameValue, Request};
+use web_parts::{NameValue, Request, trimmed};
 
 /// A number in decimal digits.
 pub(crate) fn digits(alloc: Global, number: u64) -> Result<Bytes, NoMemory>

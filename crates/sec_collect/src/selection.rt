@@ -62,6 +62,26 @@ impl<'a, M: Selector> Sought<'a, M> {
         let is_excluded = is_excluded(self.targets, self.patterns, target.var, name)?;
         Ok(!is_excluded)
     }
+
+    /// How many rows one of the targets, beside its pattern, leaves of these.
+    pub fn count(
+        &self,
+        target: &Target,
+        pattern: &Option<M>,
+        rows: Rows<'_>,
+    ) -> Result<u64, NoMemory>
+        ensures { IfOk result (λ count. count ≡ length (filter (λ r. keeps M.meaning (zip self.now.targets.now self.now.patterns.now) self.now.removed.now (target.now, pattern.now) r.name) (lent rows.entry))) }
+    {
+        let mut count: u64 = 0;
+        let mut rest = rows;
+        while let Some((name, _, behind)) = rest.split_first() {
+            if self.keeps(target, pattern, name)? {
+                count = count.checked_add(1).ok_or(NoMemory)?;
+            }
+            rest = behind;
+        }
+        Ok(count)
+    }
 }
 
 // Adds what a target gives.
@@ -80,30 +100,10 @@ fn add_values<M: Selector>(
     }
     let rows = vars.rows(target.var);
     if target.count {
-        let count = left_count(all, target, pattern, rows)?;
+        let count = all.count(target, pattern, rows)?;
         return out.push(RowRef::of_count(alloc, target, count)?);
     }
     add_rows(alloc, all, target, pattern, rows, out)
-}
-
-// How many rows a target leaves.
-fn left_count<M: Selector>(
-    all: &Sought<'_, M>,
-    target: &Target,
-    pattern: &Option<M>,
-    rows: Rows<'_>,
-) -> Result<u64, NoMemory>
-    ensures { IfOk result (λ count. count ≡ length (filter (λ r. keeps M.meaning (zip all.now.targets.now all.now.patterns.now) all.now.removed.now (target.now, pattern.now) r.name) (lent rows.entry))) }
-{
-    let mut count: u64 = 0;
-    let mut rest = rows;
-    while let Some((name, _, behind)) = rest.split_first() {
-        if all.keeps(target, pattern, name)? {
-            count = count.checked_add(1).ok_or(NoMemory)?;
-        }
-        rest = behind;
-    }
-    Ok(count)
 }
 
 // Adds copies of the rows that a target leaves.

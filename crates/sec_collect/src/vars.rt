@@ -4,17 +4,15 @@ ghost use Rattle.sec_ast.specs.declared.settings.Processor.TheVariants.{Plain};
 ghost use Rattle.sec_collect.specs.Body.{chosen_processor, flag_text, is_longer, left_of, posted, processor_of};
 ghost use Rattle.sec_collect.specs.Held.{Held};
 ghost use Rattle.sec_collect.specs.Lent.{lent};
-ghost use Rattle.sec_collect.specs.Response.{content_type, response_body};
+ghost use Rattle.sec_collect.specs.Response.{response_body};
 ghost use Rattle.sec_collect.specs.Row.{optional, row, single, value_named};
 ghost use Rattle.sec_collect.specs.Captures.{captured_rows};
 ghost use Rattle.sec_collect.specs.Rows.{last_matched, rows_of};
 ghost use Rattle.sec_collect.specs.Variables.{put_within, without};
 
-use crate::body::{chosen, flag_text, is_longer, left_of, posted, sizes_text};
+use crate::body::{flag_text, is_form, is_longer, left_of, posted, sizes_text};
 use crate::captures::captured_rows;
-use crate::request::{
-    basename, content_type, digits, length_text, protocol_text, server_name, value_named,
-};
+use crate::request::{content_type, digits, length_text, protocol_text, value_named};
 use crate::rows::optional;
 use crate::texts::RequestTexts;
 use crate::{AddedResponse, OpenedBody, Rows, delete_variable, put_variable};
@@ -39,6 +37,7 @@ pub struct Vars {
     texts: RequestTexts,
     query_arguments: Seq<NameValue>,
     headers: Seq<NameValue>,
+    is_form: bool,
     cookies: Seq<NameValue>,
     posted: Seq<NameValue>,
     body_length: Option<Bytes>,
@@ -46,6 +45,7 @@ pub struct Vars {
     status: Option<Bytes>,
     response_protocol: Option<Bytes>,
     response_length: Option<Bytes>,
+    response_type: Option<Bytes>,
     response_headers: Seq<NameValue>,
 }
 
@@ -66,9 +66,10 @@ impl Vars {
     pub fn new(alloc: Global, request: Request) -> Result<Vars, NoMemory>
         ensures { IfOk result (λ vars. vars ≡ record { request = request; processor = Plain; body = None; response = None; tx = []; captured = []; matched = [] }) }
     {
-        let texts = RequestTexts::new(alloc, &request)?;
-        let query_arguments = argument_rows(alloc, request.query.as_slice())?;
         let headers = header_rows(alloc, request.headers.as_slice())?;
+        let texts = RequestTexts::new(alloc, &request, headers.as_slice())?;
+        let is_form = is_form(headers.as_slice());
+        let query_arguments = argument_rows(alloc, request.query.as_slice())?;
         let cookies = cookie_rows(alloc, &headers)?;
         let posted = Seq::new(alloc);
         let arguments_size = sizes_text(alloc, &query_arguments, &posted)?;
@@ -83,6 +84,7 @@ impl Vars {
             texts,
             query_arguments,
             headers,
+            is_form,
             cookies,
             posted,
             body_length: None,
@@ -90,6 +92,7 @@ impl Vars {
             status: None,
             response_protocol: None,
             response_length: None,
+            response_type: None,
             response_headers: Seq::new(alloc),
         })
     }
@@ -104,13 +107,13 @@ impl Vars {
             Var::RemotePort => Rows::One(self.texts.source_port.as_slice()),
             Var::ServerAddr => Rows::One(self.texts.destination.as_slice()),
             Var::ServerPort => Rows::One(self.texts.destination_port.as_slice()),
-            Var::ServerName => Rows::One(server_name(self.headers.as_slice())),
+            Var::ServerName => Rows::One(self.texts.server_name.as_slice()),
             Var::UniqueId => Rows::One(self.request.id.as_slice()),
             Var::RequestMethod => Rows::One(self.request.method.as_slice()),
             Var::RequestUri => Rows::One(self.texts.uri.as_slice()),
             Var::RequestUriRaw => Rows::One(self.texts.uri.as_slice()),
             Var::RequestFilename => Rows::One(self.request.path.as_slice()),
-            Var::RequestBasename => Rows::One(basename(self.request.path.as_slice())),
+            Var::RequestBasename => Rows::One(self.texts.basename.as_slice()),
             Var::RequestLine => Rows::One(self.texts.line.as_slice()),
             Var::RequestProtocol => Rows::One(self.texts.protocol.as_slice()),
             Var::QueryString => Rows::One(self.request.query.as_slice()),
@@ -126,7 +129,7 @@ impl Vars {
             Var::ResponseProtocol => optional(&self.response_protocol),
             Var::ResponseBody => self.response_body_rows(),
             Var::ResponseContentLength => optional(&self.response_length),
-            Var::ResponseContentType => self.content_type_rows(),
+            Var::ResponseContentType => optional(&self.response_type),
             Var::OutboundDataError => Rows::One(b"0"),
             Var::MatchedVar => self.matched_value_rows(),
             Var::MatchedVarName => self.matched_name_rows(),
@@ -163,7 +166,14 @@ impl Vars {
     fn inbound_error(&self) -> &[u8]
         ensures { result.now ≡ flag_text (is_longer self.now.request.body self.now.body) }
     {
-        flag_text(is_longer(self.request.body.as_slice(), self.body))
+        flag_text(self.is_body_over_limit())
+    }
+
+    /// Whether the body of the request is longer than the limit under which it was opened.
+    pub fn is_body_over_limit(&self) -> bool
+        ensures { result ≡ is_longer self.now.request.body self.now.body }
+    {
+        is_longer(self.request.body.as_slice(), self.body)
     }
 
     fn response_body_rows(&self) -> Rows<'_>
@@ -171,15 +181,6 @@ impl Vars {
     {
         match &self.response {
             Some(added) => body_of(added),
-            None => Rows::Nothing,
-        }
-    }
-
-    fn content_type_rows(&self) -> Rows<'_>
-        ensures { lent result ≡ optional (option_map content_type self.now.response) }
-    {
-        match &self.response {
-            Some(_) => Rows::One(content_type(self.response_headers.as_slice())),
             None => Rows::Nothing,
         }
     }
@@ -214,7 +215,10 @@ impl Vars {
     pub fn chosen_processor(&self) -> Processor
         ensures { result ≡ chosen_processor self.now }
     {
-        chosen(self.processor, self.headers.as_slice())
+        match self.processor {
+            Processor::Plain if self.is_form => Processor::Urlencoded,
+            processor => processor,
+        }
     }
 
     /// The processor of the opened body, and before that the one that would open it.
@@ -269,9 +273,11 @@ impl Vars {
         let response_protocol = protocol_text(alloc, response.version.as_slice())?;
         let response_length = length_text(alloc, response.body.as_slice())?;
         let response_headers = header_rows(alloc, response.headers.as_slice())?;
+        let response_type = Bytes::copy(alloc, content_type(response_headers.as_slice()))?;
         self.status = Some(status);
         self.response_protocol = Some(response_protocol);
         self.response_length = Some(response_length);
+        self.response_type = Some(response_type);
         self.response_headers = response_headers;
         self.response = Some(AddedResponse {
             response,

@@ -99,30 +99,10 @@ fn add_matches(
     }
     let rows = vars.rows(target.var);
     if target.count {
-        let count = left_count(sought, target, pattern, rows)?;
+        let count = sought.count(target, pattern, rows)?;
         return add_count(alloc, question, target, count, out);
     }
     add_rows(alloc, question, sought, target, pattern, rows, out)
-}
-
-// How many rows a target leaves.
-fn left_count(
-    sought: &Sought<'_, NamePattern>,
-    target: &Target,
-    pattern: &Option<NamePattern>,
-    rows: Rows<'_>,
-) -> Result<u64, NoMemory>
-    ensures { IfOk result (λ count. count ≡ length (filter (λ r. keeps is_matched (zip sought.now.targets.now sought.now.patterns.now) sought.now.removed.now (target.now, pattern.now) r.name) (lent rows.entry))) }
-{
-    let mut count: u64 = 0;
-    let mut rest = rows;
-    while let Some((name, _, behind)) = rest.split_first() {
-        if sought.keeps(target, pattern, name)? {
-            count = count.checked_add(1).ok_or(NoMemory)?;
-        }
-        rest = behind;
-    }
-    Ok(count)
 }
 
 // Adds the number of a target's rows, where that is matched.

@@ -1,6 +1,5 @@
 ghost use Rattle.std.specs.Prelude.{◌≡◌, ◌+◌, ◌≤◌, ◌∷◌, List, ℕ, map, IfOk, OnOk};
 ghost use Rattle.sec_ast.specs.declared.listing.Item.{Item as TheItem};
-ghost use Rattle.sec_collect.specs.Body.{is_longer};
 ghost use Rattle.sec_compile.specs.Links.{built_link, built_links};
 ghost use Rattle.sec_eval.specs.Counting.{Continues, RunsTo, flow_by, rules_in};
 ghost use Rattle.sec_meaning.specs.declared.state.Passing.{Passing as ThePassing};
@@ -10,8 +9,7 @@ ghost use Rattle.sec_meaning.specs.Phase.{Run, after, at_rule, follow, is_reject
 
 use crate::State;
 use crate::effect::effect;
-use sec_ast::{Item, Listing, Rule, Var, Verdict};
-use sec_collect::Vars;
+use sec_ast::{Item, Listing, Rule, Verdict};
 use sec_compile::{BuiltLink, Ruleset};
 use sec_meaning::{After, Flow as RuleFlow, Passing, at_marker, is_off, is_on, too_large};
 use std::alloc::Global;
@@ -162,20 +160,10 @@ fn walk<L: Ledger>(
     Ok(Flow::Goes)
 }
 
-// Whether the body of the request is longer than the limit under which it was opened.
-fn is_longer(vars: &Vars) -> bool
-    ensures { result ≡ is_longer vars.now.request.body vars.now.body }
-{
-    match vars.rows(Var::InboundDataError).split_first() {
-        Some((_, flag, _)) => flag == b"1".as_slice(),
-        None => false,
-    }
-}
-
 fn is_rejected(listing: &Listing, state: &State) -> bool
     ensures { result ≡ is_rejected listing.now state.now }
 {
-    listing.limit_reject && is_on(state.engine()) && is_longer(state.vars())
+    listing.limit_reject && is_on(state.engine()) && state.vars().is_body_over_limit()
 }
 
 // Phase 2 with the body opened.

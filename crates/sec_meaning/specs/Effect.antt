@@ -2,7 +2,6 @@
 use Rattle.std.specs.Prelude.{ℕ, nat_eq, nat_le, Bool, true, false, ◌&&◌, ◌||◌, if◌then◌else◌, List, [], ◌∷◌, ◌++◌, Option, Some, None}
 use Rattle.sec_ast.specs.declared.action.Disrupt.{Disrupt}
 use Rattle.sec_ast.specs.declared.action.Disrupt.TheVariants as disrupts
-use Rattle.sec_ast.specs.declared.macros.Part.{Part}
 use Rattle.sec_ast.specs.declared.rule.Rule.{Rule}
 use Rattle.sec_ast.specs.declared.settings.Engine.{Engine}
 use Rattle.sec_ast.specs.declared.settings.Engine.TheVariants as engines

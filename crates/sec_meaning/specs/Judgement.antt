@@ -1,5 +1,5 @@
 -- A whole transaction, judged at once.
-use Rattle.std.specs.Prelude.{ℕ, List, [], Option, Some, None}
+use Rattle.std.specs.Prelude.{ℕ, [], Option, Some, None}
 use Rattle.sec_ast.specs.declared.listing.Listing.{Listing}
 use Rattle.sec_ast.specs.declared.settings.Processor.TheVariants as processors
 use Rattle.sec_ast.specs.declared.verdict.Verdict.{Verdict}

@@ -8,8 +8,6 @@ mod matching;
 mod patterns;
 mod phase;
 mod state;
-#[cfg(test)]
-mod tests;
 mod values;
 
 pub use effect::{denial_status, interruption, is_on, redirect_status, skip_of};

@@ -32,26 +32,29 @@ pub struct Acts {
     pub ctls: Seq<Ctl>,
 }
 
-fn nothing_said(alloc: Global) -> Acts
-    ensures { result ≡ no_acts }
-{
-    Acts {
-        id: None,
-        phase: None,
-        msg: Seq::new(alloc),
-        logdata: Seq::new(alloc),
-        tags: Seq::new(alloc),
-        log: None,
-        disrupt: None,
-        status: None,
-        skip: 0,
-        skip_after: None,
-        chain: false,
-        transforms: Seq::new(alloc),
-        capture: false,
-        multi: false,
-        setvars: Seq::new(alloc),
-        ctls: Seq::new(alloc),
+impl Acts {
+    /// What an action list says that is not there.
+    pub fn none(alloc: Global) -> Acts
+        ensures { result ≡ no_acts }
+    {
+        Acts {
+            id: None,
+            phase: None,
+            msg: Seq::new(alloc),
+            logdata: Seq::new(alloc),
+            tags: Seq::new(alloc),
+            log: None,
+            disrupt: None,
+            status: None,
+            skip: 0,
+            skip_after: None,
+            chain: false,
+            transforms: Seq::new(alloc),
+            capture: false,
+            multi: false,
+            setvars: Seq::new(alloc),
+            ctls: Seq::new(alloc),
+        }
     }
 }
 
@@ -61,80 +64,27 @@ fn add_action(alloc: Global, action: Action, acts: Acts) -> Result<Acts, NoMemor
 {
     let mut acts = acts;
     match action {
-        Action::Id(id) => {
-            acts.id = Some(id);
-            Ok(acts)
-        }
-        Action::Phase(phase) => {
-            acts.phase = Some(phase);
-            Ok(acts)
-        }
-        Action::Msg(text) => {
-            acts.msg = text;
-            Ok(acts)
-        }
-        Action::Logdata(text) => {
-            acts.logdata = text;
-            Ok(acts)
-        }
-        Action::Tag(tag) => {
-            acts.tags.push(tag)?;
-            Ok(acts)
-        }
-        Action::Log(is_logged) => {
-            acts.log = Some(is_logged);
-            Ok(acts)
-        }
-        Action::Disrupt(disrupt) => {
-            acts.disrupt = Some(disrupt);
-            Ok(acts)
-        }
-        Action::Block => {
-            acts.disrupt = None;
-            Ok(acts)
-        }
-        Action::Status(status) => {
-            acts.status = Some(status);
-            Ok(acts)
-        }
-        Action::Skip(skip) => {
-            acts.skip = skip;
-            Ok(acts)
-        }
-        Action::SkipAfter(label) => {
-            acts.skip_after = Some(label);
-            Ok(acts)
-        }
-        Action::Chain => {
-            acts.chain = true;
-            Ok(acts)
-        }
-        Action::NoTransforms => {
-            acts.transforms = Seq::new(alloc);
-            Ok(acts)
-        }
-        Action::Transform(transform) => {
-            acts.transforms.push(transform)?;
-            Ok(acts)
-        }
-        Action::Capture => {
-            acts.capture = true;
-            Ok(acts)
-        }
-        Action::MultiMatch => {
-            acts.multi = true;
-            Ok(acts)
-        }
-        Action::SetVar(setvar) => {
-            acts.setvars.push(setvar)?;
-            Ok(acts)
-        }
-        Action::Ctl(ctl) => {
-            acts.ctls.push(ctl)?;
-            Ok(acts)
-        }
-        Action::Nothing => Ok(acts),
+        Action::Id(id) => acts.id = Some(id),
+        Action::Phase(phase) => acts.phase = Some(phase),
+        Action::Msg(text) => acts.msg = text,
+        Action::Logdata(text) => acts.logdata = text,
+        Action::Tag(tag) => acts.tags.push(tag)?,
+        Action::Log(is_logged) => acts.log = Some(is_logged),
+        Action::Disrupt(disrupt) => acts.disrupt = Some(disrupt),
+        Action::Block => acts.disrupt = None,
+        Action::Status(status) => acts.status = Some(status),
+        Action::Skip(skip) => acts.skip = skip,
+        Action::SkipAfter(label) => acts.skip_after = Some(label),
+        Action::Chain => acts.chain = true,
+        Action::NoTransforms => acts.transforms = Seq::new(alloc),
+        Action::Transform(transform) => acts.transforms.push(transform)?,
+        Action::Capture => acts.capture = true,
+        Action::MultiMatch => acts.multi = true,
+        Action::SetVar(setvar) => acts.setvars.push(setvar)?,
+        Action::Ctl(ctl) => acts.ctls.push(ctl)?,
+        Action::Nothing => {}
     }
+    Ok(acts)
 }
 
 fn stands_again(action: &Action, acts: &Acts) -> bool
@@ -173,7 +123,7 @@ fn add_piece(alloc: Global, stand: Stand, piece: &Piece, acts: Acts) -> Result<A
 pub fn read_actions(alloc: Global, stand: Stand, text: &[u8]) -> Result<Acts, Refusal>
     ensures { Gives (λ a. a) result (actions_in stand text.now) }
 {
-    let mut acts = nothing_said(alloc);
+    let mut acts = Acts::none(alloc);
     let mut rest = Some(text);
     while let Some(here) = rest {
         let (piece, after) = read_piece(alloc, here)?;

@@ -13,8 +13,6 @@ mod links;
 mod names;
 mod operators;
 mod reading;
-#[cfg(test)]
-mod realistic;
 mod removals;
 mod settings;
 mod steps;

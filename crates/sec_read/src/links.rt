@@ -1,6 +1,5 @@
 ghost use Rattle.std.specs.Prelude.{◌≡◌, ◌≤◌, IfErr, IfOk, IfSome, OnOk, decimal, true};
 ghost use Rattle.std.specs.Option.{option_copied};
-ghost use Rattle.sec_parts.specs.Acts.{no_acts};
 ghost use Rattle.sec_parts.specs.Results.{Gives};
 ghost use Rattle.waf_io.specs.Counts.{Rose};
 ghost use Rattle.sec_read.specs.Links.{acting, action_line, acts_of, always, first_link, further_link, link_of, linked, rule_line, rule_of, rule_with, stand_of, tested, with_rule};
@@ -202,35 +201,12 @@ fn add_link(
     }
 }
 
-fn nothing_said(alloc: Global) -> Acts
-    ensures { result ≡ no_acts }
-{
-    Acts {
-        id: None,
-        phase: None,
-        msg: Seq::new(alloc),
-        logdata: Seq::new(alloc),
-        tags: Seq::new(alloc),
-        log: None,
-        disrupt: None,
-        status: None,
-        skip: 0,
-        skip_after: None,
-        chain: false,
-        transforms: Seq::new(alloc),
-        capture: false,
-        multi: false,
-        setvars: Seq::new(alloc),
-        ctls: Seq::new(alloc),
-    }
-}
-
 // What the action list of a link says, which may be missing.
 fn read_acts(alloc: Global, stand: Stand, actions: Option<&[u8]>) -> Result<Acts, Refusal>
     ensures { Gives (λ a. a) result (acts_of stand (option_copied actions.entry)) }
 {
     match actions {
-        None => Ok(nothing_said(alloc)),
+        None => Ok(Acts::none(alloc)),
         Some(text) => read_actions(alloc, stand, text),
     }
 }

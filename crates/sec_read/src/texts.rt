@@ -1,12 +1,13 @@
-ghost use Rattle.std.specs.Prelude.{◌≡◌, ◌≤◌, IfErr, IfOk, IfSome, List, ℕ, drop, length, map, true};
-ghost use Rattle.std.specs.List.{prefix_len, slice_split, suffix_len};
-ghost use Rattle.sec_text.specs.Lines.{is_line_feed, is_passed, is_trimmed, trim, trim_end};
+ghost use Rattle.std.specs.Prelude.{◌≡◌, ◌≤◌, IfErr, IfOk, IfSome, List, ℕ, length, map, true};
+ghost use Rattle.std.specs.List.{slice_split};
+ghost use Rattle.sec_text.specs.Lines.{is_line_feed};
 ghost use Rattle.waf_io.specs.Counts.{Rose};
 ghost use Rattle.sec_read.specs.FileWords.{admitted, words_among, words_in};
 ghost use Rattle.sec_read.specs.Results.{IsPlacedAt, Tells, is_unread};
 
 use crate::at::At;
 use crate::faults::{Cause, Halt};
+use sec_text::{is_passed_over, trimmed};
 use std::alloc::Global;
 use waf_io::{FileAnswer, Files};
 use waf_plain::{Bytes, NoMemory, Seq};
@@ -52,41 +53,6 @@ pub fn fetch<F: Files>(
     Ok(Text { content, total })
 }
 
-fn is_trimmed_byte(byte: u8) -> bool
-    ensures { result ≡ is_trimmed byte }
-{
-    byte == b' ' || byte == b'\t' || byte == b'\r'
-}
-
-fn trim_front(text: &[u8]) -> &[u8]
-    ensures { result.now ≡ drop (prefix_len is_trimmed text.now) text.now }
-{
-    let mut count = 0;
-    while count < text.len() && is_trimmed_byte(text[count]) {
-        count += 1;
-    }
-    text.split_at(count).1
-}
-
-fn trim_back(text: &[u8]) -> &[u8]
-    ensures { result.now ≡ trim_end text.now }
-{
-    let mut count = text.len();
-    while count > 0 && is_trimmed_byte(text[count - 1]) {
-        count -= 1;
-    }
-    text.split_at(count).0
-}
-
-fn is_passed_over(text: &[u8]) -> bool
-    ensures { result ≡ is_passed text.now }
-{
-    match text {
-        [] => true,
-        [first, ..] => *first == b'#',
-    }
-}
-
 fn split_lines(alloc: Global, content: &[u8]) -> Result<Vec<&[u8]>, NoMemory>
     ensures { IfOk result (λ v. map (λ line. line.now) v.items ≡ slice_split is_line_feed content.now) }
 {
@@ -100,7 +66,7 @@ fn words_among_lines(alloc: Global, lines: &[&[u8]]) -> Result<Seq<Bytes>, NoMem
 {
     let mut words = Seq::new(alloc);
     for line in lines {
-        let word = trim_back(trim_front(line));
+        let word = trimmed(line);
         if !is_passed_over(word) {
             words.push(Bytes::copy(alloc, word)?)?;
         }

@@ -10,6 +10,6 @@ mod words;
 
 pub use faults::{TextFault, WordFault};
 pub use line::Line;
-pub use lines::{lines_of, written_lines_are_read};
+pub use lines::{is_passed_over, lines_of, trimmed, written_lines_are_read};
 pub use quotes::read_quoted;
 pub use words::{one_reading_of_a_line, words_of, written_words_are_read};

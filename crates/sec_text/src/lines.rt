@@ -41,7 +41,8 @@ fn trim_back(text: &[u8]) -> &[u8]
     text.split_at(count).0
 }
 
-fn trimmed(text: &[u8]) -> &[u8]
+/// The text without the spaces, tabs and carriage returns at both ends.
+pub fn trimmed(text: &[u8]) -> &[u8]
     ensures { result.now ≡ trim text.now }
 {
     trim_back(trim_front(text))
@@ -56,7 +57,8 @@ fn ends_open(text: &[u8]) -> bool
     }
 }
 
-fn is_passed_over(text: &[u8]) -> bool
+/// Whether a trimmed line says nothing: it is empty, or a comment.
+pub fn is_passed_over(text: &[u8]) -> bool
     ensures { result ≡ is_passed text.now }
 {
     match text {

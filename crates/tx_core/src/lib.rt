@@ -5,8 +5,6 @@
 mod half;
 mod laws;
 mod phases;
-#[cfg(test)]
-mod tests;
 
 pub use half::{Begun, Ended, Half, begin, finish, retire};
 pub use laws::{

@@ -16,5 +16,6 @@ pub use address::{Address, address_text};
 pub use arguments::argument_rows;
 pub use cookies::cookie_rows;
 pub use headers::header_rows;
+pub use pieces::{cut, trimmed};
 pub use row::NameValue;
 pub use transaction::{Request, Response};

@@ -2,8 +2,8 @@ ghost use Rattle.std.specs.Prelude.{◌≡◌, ◌==◌, position};
 ghost use Rattle.std.specs.Option.{option_map};
 ghost use Rattle.web_parts.specs.Pieces.{before, behind, is_blank, trimmed, without_end, without_front};
 
-// The text before the first such byte, or the whole, and the text behind it, where there is one.
-pub(crate) fn cut(text: &[u8], mark: u8) -> (&[u8], Option<&[u8]>)
+/// The text before the first such byte, or the whole, and the text behind it, where there is one.
+pub fn cut(text: &[u8], mark: u8) -> (&[u8], Option<&[u8]>)
     ensures before { result.0.now ≡ before mark text.now }
     ensures behind { option_map (λ rest. rest.now) result.1 ≡ behind mark text.now }
 {
@@ -19,8 +19,8 @@ fn place_of(text: &[u8], mark: u8) -> Option<usize>
     text.iter().position(|byte| *byte == mark)
 }
 
-// The text without the blanks at both ends.
-pub(crate) fn trimmed(text: &[u8]) -> &[u8]
+/// The text without the spaces and tabs at both ends.
+pub fn trimmed(text: &[u8]) -> &[u8]
     ensures { result.now ≡ trimmed text.now }
 {
     without_end(without_front(text))

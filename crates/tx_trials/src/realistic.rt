@@ -1,10 +1,11 @@
-// A rule file of the usual kind and its canonical text, written by hand from the rules for it.
+// A rule file of the usual kind, its canonical text, and what requests under it come to, all worked
+// out by hand.
 
-use crate::read_rules;
-use sec_ast::print_listing;
+use crate::canonical::printed;
+use crate::trial::{Answered, Asked, Trial};
 use std::alloc::Global;
-use waf_io::{MemFile, SureFiles};
-use waf_plain::{Bytes, NoMemory, Seq};
+use std::test::Fail;
+use waf_plain::{Bytes, NoMemory};
 
 const FILE: [&[u8]; 77] = [
     b"# Anomaly scoring over a request: set-up, detection, decision.",
@@ -119,20 +120,8 @@ fn joined(alloc: Global, lines: &[&[u8]]) -> Result<Bytes, NoMemory> {
     Ok(text)
 }
 
-// The canonical text of the listing that a text gives, or nothing.
-fn printed(alloc: Global, content: Bytes) -> Result<Bytes, NoMemory> {
-    let mut files = Seq::new(alloc);
-    let name = Bytes::copy(alloc, b"a")?;
-    files.push(MemFile { name, content })?;
-    let mut out = Bytes::new(alloc);
-    if let Ok(listing) = read_rules(alloc, b"a", &mut SureFiles::new(files)) {
-        print_listing(alloc, &listing, &mut out)?;
-    }
-    Ok(out)
-}
-
 fn is_printed_as(alloc: Global, lines: &[&[u8]], given: &[&[u8]]) -> Result<bool, NoMemory> {
-    let text = printed(alloc, joined(alloc, lines)?)?;
+    let text = printed(alloc, joined(alloc, lines)?.as_slice())?;
     Ok(text.as_slice() == joined(alloc, given)?.as_slice())
 }
 
@@ -144,4 +133,178 @@ fn a_realistic_file(rt: HostRuntime) {
 #[test]
 fn a_printed_file(rt: HostRuntime) {
     assert!(rt; is_printed_as(rt.alloc(), &CANONICAL, &CANONICAL) == Ok(true));
+}
+
+const HOST: &[u8] = b"Host: example.org\r\nUser-Agent: test\r\n\r\n";
+
+const CHECK: &[u8] = b"User-Agent: HealthCheck/1.0\r\n\r\n";
+
+const TRIALS: &[Trial] = &[
+    Trial {
+        what: "all twelve arguments, three of whose values are scripts",
+        asked: Asked {
+            src: [192, 0, 2, 1],
+            method: b"GET",
+            path: b"/search",
+            query: b"a=<script>&b=%3Cscript%3E&c=javascript:x",
+            headers: HOST,
+            body: b"",
+        },
+        answered: None,
+        told: b"deny 403 949110\n-\n941110 XSS filter [Matched Data: javascript: found within ARGS:c: javascript:x]\n949110 Inbound Anomaly Score Exceeded (Total Score: 15)\n",
+    },
+    Trial {
+        what: "nothing to find, and a server that fails",
+        asked: Asked {
+            src: [192, 0, 2, 1],
+            method: b"GET",
+            path: b"/search",
+            query: b"q=cats+and+dogs",
+            headers: HOST,
+            body: b"",
+        },
+        answered: Some(Answered {
+            status: 503,
+            headers: b"",
+            body: b"Begin-RSA-Private-Key",
+        }),
+        told: b"-\n-\n950100 The server answered an error [503]\n",
+    },
+    Trial {
+        what: "a check by the load balancer itself",
+        asked: Asked {
+            src: [127, 0, 0, 1],
+            method: b"PUT",
+            path: b"/",
+            query: b"",
+            headers: CHECK,
+            body: b"",
+        },
+        answered: None,
+        told: b"-\n-\n",
+    },
+    Trial {
+        what: "the same from elsewhere",
+        asked: Asked {
+            src: [192, 0, 2, 1],
+            method: b"PUT",
+            path: b"/",
+            query: b"",
+            headers: CHECK,
+            body: b"",
+        },
+        answered: None,
+        told: b"deny 403 949110\n-\n911100 Method is not allowed by policy [PUT]\n920280 Request without a Host header\n949110 Inbound Anomaly Score Exceeded (Total Score: 8)\n",
+    },
+    Trial {
+        what: "no Host, which is below the threshold",
+        asked: Asked {
+            src: [192, 0, 2, 1],
+            method: b"GET",
+            path: b"/",
+            query: b"",
+            headers: b"User-Agent: test\r\n\r\n",
+            body: b"",
+        },
+        answered: None,
+        told: b"-\n-\n920280 Request without a Host header\n",
+    },
+    Trial {
+        what: "a way out of the root",
+        asked: Asked {
+            src: [192, 0, 2, 1],
+            method: b"GET",
+            path: b"/a/../../etc/hosts",
+            query: b"",
+            headers: HOST,
+            body: b"",
+        },
+        answered: None,
+        told: b"deny 403 949110\n-\n930110 Path traversal (/../) [/../ in REQUEST_FILENAME]\n949110 Inbound Anomaly Score Exceeded (Total Score: 5)\n",
+    },
+    Trial {
+        what: "a form",
+        asked: Asked {
+            src: [192, 0, 2, 1],
+            method: b"POST",
+            path: b"/send",
+            query: b"",
+            headers: b"Host: example.org\r\nContent-Type: application/x-www-form-urlencoded\r\n\r\n",
+            body: b"name=x&note=union/**/select",
+        },
+        answered: None,
+        told: b"deny 403 949110\n-\n942190 SQL injection [union/**/select]\n949110 Inbound Anomaly Score Exceeded (Total Score: 5)\n",
+    },
+    Trial {
+        what: "the same body, which is no form",
+        asked: Asked {
+            src: [192, 0, 2, 1],
+            method: b"POST",
+            path: b"/send",
+            query: b"",
+            headers: b"Host: example.org\r\nContent-Type: text/plain\r\n\r\n",
+            body: b"name=x&note=union/**/select",
+        },
+        answered: None,
+        told: b"-\n-\n",
+    },
+    Trial {
+        what: "a cookie",
+        asked: Asked {
+            src: [192, 0, 2, 1],
+            method: b"GET",
+            path: b"/",
+            query: b"",
+            headers: b"Host: example.org\r\nCookie: a=/etc/passwd\r\n\r\n",
+            body: b"",
+        },
+        answered: None,
+        told: b"deny 403 949110\n-\n932160 Remote command [/etc/passwd]\n949110 Inbound Anomaly Score Exceeded (Total Score: 5)\n",
+    },
+    Trial {
+        what: "a cookie that is left out",
+        asked: Asked {
+            src: [192, 0, 2, 1],
+            method: b"GET",
+            path: b"/",
+            query: b"",
+            headers: b"Host: example.org\r\nCookie: x__utmz=/etc/passwd\r\n\r\n",
+            body: b"",
+        },
+        answered: None,
+        told: b"-\n-\n",
+    },
+    Trial {
+        what: "a null byte, in the URI and in an argument",
+        asked: Asked {
+            src: [192, 0, 2, 1],
+            method: b"GET",
+            path: b"/",
+            query: b"q=a%00b",
+            headers: HOST,
+            body: b"",
+        },
+        answered: None,
+        told: b"deny 403 949110\n-\n920270 Null byte\n949110 Inbound Anomaly Score Exceeded (Total Score: 10)\n",
+    },
+];
+
+#[test]
+fn requests_by_the_definition(rt: HostRuntime) -> Result<(), Fail> {
+    let rules = joined(rt.alloc(), &FILE)?;
+    for trial in TRIALS {
+        let told = trial.by_the_definition(rt.alloc(), rules.as_slice())?;
+        assert_eq!(rt; told.as_slice(), trial.told, "{}", trial.what);
+    }
+    Ok(())
+}
+
+#[test]
+fn requests_by_halves(rt: HostRuntime) -> Result<(), Fail> {
+    let rules = joined(rt.alloc(), &FILE)?;
+    for trial in TRIALS {
+        let told = trial.by_halves(rt.alloc(), rules.as_slice())?;
+        assert_eq!(rt; told.as_slice(), trial.told, "{}", trial.what);
+    }
+    Ok(())
 }
