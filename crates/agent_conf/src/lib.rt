@@ -7,8 +7,6 @@ mod conf;
 mod fault;
 mod keys;
 mod table;
-#[cfg(test)]
-mod tests;
 mod top;
 mod values;
 

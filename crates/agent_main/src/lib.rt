@@ -10,8 +10,6 @@ mod offline;
 mod once;
 mod report;
 mod serve;
-#[cfg(test)]
-mod tests;
 mod verdicts;
 mod words;
 

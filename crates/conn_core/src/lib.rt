@@ -15,8 +15,6 @@ mod resuming;
 mod seen;
 mod stage;
 mod talking;
-#[cfg(test)]
-mod tests;
 mod writing;
 
 pub use answer::{BegunAnswer, EndedAnswer, EntryAnswer, LookAnswer, Settings};

@@ -19,8 +19,6 @@ mod rule;
 mod selector;
 mod settings;
 mod target;
-#[cfg(test)]
-mod tests;
 mod transform;
 mod variable;
 mod verdict;

@@ -32,34 +32,3 @@ pub use readings::{
 };
 pub use targets::{printed_targets_are_read, targets_that_were_read_can_be_printed};
 pub use variables::names_of_variables;
-
-#[cfg(test)]
-mod tests {
-    use super::*;
-
-    #[test]
-    fn the_laws_are_called(_rt: HostRuntime) {
-        printed_lines_end();
-        words_of_a_printed_line();
-        printed_directives();
-        lines_of_a_printed_listing();
-        printed_macros_are_read();
-        macros_that_were_read_can_be_printed();
-        quoted_texts_are_read();
-        printed_targets_are_read();
-        printed_words_are_read();
-        printed_operators_are_read();
-        printed_numbers_are_read();
-        printed_link_actions_are_read();
-        printed_rule_actions_are_read();
-        printed_want_of_actions_is_read();
-        quoted_texts_can_be_printed();
-        words_of_a_line_can_be_printed();
-        printed_listings_are_read();
-        places_are_not_printed();
-        listings_that_were_read_can_be_printed();
-        listings_are_read_back();
-        bounds_are_never_met();
-        targets_that_were_read_can_be_printed();
-    }
-}

@@ -12,8 +12,6 @@ mod row_ref;
 mod rows;
 mod selection;
 mod sizes;
-#[cfg(test)]
-mod tests;
 mod texts;
 mod variables;
 mod vars;

@@ -4,8 +4,6 @@
 mod fault;
 mod links;
 mod ruleset;
-#[cfg(test)]
-mod tests;
 
 pub use fault::CompileFault;
 pub use links::{BuiltLink, build_items};

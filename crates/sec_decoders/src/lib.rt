@@ -8,8 +8,6 @@ mod escape;
 mod javascript;
 mod laws;
 mod pieces;
-#[cfg(test)]
-mod tests;
 mod unicode;
 mod url;
 

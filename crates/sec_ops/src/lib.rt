@@ -9,8 +9,6 @@ mod pattern;
 mod phrases;
 mod ranges;
 mod selectors;
-#[cfg(test)]
-mod tests;
 
 pub use built::{BuildFault, Built, Hit, build, holds};
 pub use laws::phrases_end_first;

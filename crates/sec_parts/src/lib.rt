@@ -15,8 +15,6 @@ mod operators;
 mod phrases;
 mod pieces;
 mod targets;
-#[cfg(test)]
-mod tests;
 mod texts;
 mod variables;
 

@@ -16,8 +16,6 @@ mod reading;
 mod removals;
 mod settings;
 mod steps;
-#[cfg(test)]
-mod tests;
 mod texts;
 
 pub use faults::{Fault, Kind};

@@ -8,8 +8,6 @@ mod comments;
 mod encodings;
 mod limit;
 mod paths;
-#[cfg(test)]
-mod tests;
 mod whitespace;
 
 pub use apply_names::{apply, apply_chain};

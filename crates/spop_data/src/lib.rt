@@ -3,8 +3,6 @@
 
 mod law;
 mod read;
-#[cfg(test)]
-mod tests;
 mod value;
 mod write;
 

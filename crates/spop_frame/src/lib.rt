@@ -6,8 +6,6 @@ mod framer;
 mod header;
 pub mod kind;
 mod law;
-#[cfg(test)]
-mod tests;
 mod write;
 
 pub use frame::Frame;

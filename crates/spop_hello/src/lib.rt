@@ -7,8 +7,6 @@ mod items;
 mod law;
 mod offer;
 mod terms;
-#[cfg(test)]
-mod tests;
 
 pub use frames::{disconnect_frame, hello_frame};
 pub use law::frames_again;

@@ -4,8 +4,6 @@
 mod ack;
 mod law;
 mod message;
-#[cfg(test)]
-mod tests;
 
 pub use ack::{AckFault, Action, write_ack};
 pub use law::{ack_again, messages_are_read};

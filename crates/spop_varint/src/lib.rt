@@ -3,8 +3,6 @@
 
 mod law;
 mod read;
-#[cfg(test)]
-mod tests;
 mod write;
 
 pub use law::{one_reading, one_spelling};

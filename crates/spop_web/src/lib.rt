@@ -6,8 +6,6 @@ mod argument;
 mod reader;
 mod request;
 mod response;
-#[cfg(test)]
-mod tests;
 mod value;
 
 pub use argument::{Arg, ArgFault};

@@ -10,8 +10,6 @@ mod mem_source;
 mod real;
 mod sink;
 mod source;
-#[cfg(test)]
-mod tests;
 
 pub use files::{FileAnswer, Files};
 pub use mem_files::{MemFile, MemFiles, SureFiles};

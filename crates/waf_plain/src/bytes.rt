@@ -131,27 +131,3 @@ impl Clone for Bytes {
         Ok(Bytes { bytes })
     }
 }
-
-#[cfg(test)]
-mod tests {
-    use super::*;
-    use std::test::Fail;
-
-    #[test]
-    fn bytes_grow_and_shrink(rt: HostRuntime) -> Result<(), Fail> {
-        let alloc = rt.alloc();
-        let mut bytes = Bytes::copy(alloc, b"frame")?;
-        bytes.push(b's')?;
-        bytes.append(b" of SPOP")?;
-        assert_eq!(rt; bytes.as_slice(), b"frames of SPOP".as_slice());
-        bytes.drop_front(7);
-        bytes.truncate(2);
-        assert_eq!(rt; bytes.as_slice(), b"of".as_slice());
-        let copy = bytes.clone()?;
-        assert!(rt; copy == bytes && copy != Bytes::new(alloc));
-        let vector = copy.into_vec();
-        assert_eq!(rt; Bytes::from_vec(vector).len(), 2);
-        assert!(rt; !bytes.is_empty());
-        Ok(())
-    }
-}

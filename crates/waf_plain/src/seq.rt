@@ -118,30 +118,3 @@ impl<T: Clone> Clone for Seq<T> {
         Ok(Seq { items })
     }
 }
-
-#[cfg(test)]
-mod tests {
-    use super::*;
-    use std::test::Fail;
-
-    #[test]
-    fn a_list_of_numbers(rt: HostRuntime) -> Result<(), Fail> {
-        let alloc = rt.alloc();
-        let mut list = Seq::new(alloc);
-        assert!(rt; list.is_empty());
-        for number in [3u32, 1, 4] {
-            list.push(number)?;
-        }
-        assert_eq!(rt; list.as_slice(), [3u32, 1, 4].as_slice());
-        assert_eq!(rt; (list.len(), list.get(2), list.get(3)), (3, Some(&4), None));
-        for item in list.as_mut_slice() {
-            *item = 7;
-        }
-        assert_eq!(rt; list.as_slice(), [7u32, 7, 7].as_slice());
-        let copy = list.clone()?;
-        assert!(rt; copy == list);
-        let vector = copy.into_vec();
-        assert_eq!(rt; Seq::from_vec(vector).len(), 3);
-        Ok(())
-    }
-}

@@ -41,25 +41,3 @@ impl<L: Ledger> Steps<L> {
         self.book.add(&mut self.share, 1);
     }
 }
-
-#[cfg(test)]
-mod tests {
-    use super::*;
-    use std::marker::Brand;
-
-    // Two steps of a counter of that ledger.
-    fn two_steps<L: Ledger>(blank: Blank)
-        requires name { blank.name ≡ L.name }
-        requires parts { blank.parts ≡ L.parts }
-        requires some { 0 < L.parts }
-    {
-        let mut steps = Steps::<L>::start(blank);
-        steps.tick();
-        steps.tick();
-    }
-
-    #[test]
-    fn a_counter_is_opened_by_a_brand(_rt: HostRuntime) {
-        two_steps::<Brand>(Blank::new(1));
-    }
-}

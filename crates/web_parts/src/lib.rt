@@ -8,8 +8,6 @@ mod cookies;
 mod headers;
 mod pieces;
 mod row;
-#[cfg(test)]
-mod tests;
 mod transaction;
 
 pub use address::{Address, address_text};
