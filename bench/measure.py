@@ -1,5 +1,5 @@
 #!/usr/bin/env python3
-"""Requests a second of `yefontsila once`, for doubling numbers of requests, of rules and of bytes.
+"""Requests a second of `yefontsila once`, for doubling numbers of requests, of detection rules and of bytes of a form.
 
     measure.py [--requests N] [--repeat N]
 
@@ -19,7 +19,7 @@ HERE = Path(__file__).resolve().parent
 ROOT = HERE.parent
 PROGRAM = ROOT / "yefontsila"
 RULES = ROOT / "examples" / "realistic.rules"
-DETECTION = re.compile(r"SecRule (?:[^\n]*\\\n)*[^\n]*\n")
+RULE = re.compile(r"SecRule (?:[^\n]*\\\n)*[^\n]*\n")
 
 
 def stream(count, kind="mixed", size=200):
@@ -27,10 +27,15 @@ def stream(count, kind="mixed", size=200):
     return subprocess.run(words, check=True, capture_output=True).stdout
 
 
+def detection_rules(text):
+    """The rules that look for attacks: those with identifiers from 930000 to 949999, but for the decision."""
+    return [rule for rule in RULE.findall(text) if re.search(r"id:9[34]\d{4}", rule) and "id:949110" not in rule]
+
+
 def grown(times):
     """The realistic file with its detection rules that many times, each time under other identifiers."""
     text = RULES.read_text()
-    rules = [rule for rule in DETECTION.findall(text) if re.search(r"id:9[34]\d{4}", rule) and "id:949110" not in rule]
+    rules = detection_rules(text)
     more = []
     for turn in range(1, times):
         more += [re.sub(r"id:(\d+)", lambda found: f"id:{turn}{found.group(1)}", rule) for rule in rules]
@@ -65,12 +70,13 @@ def main():
     print("\nkind        requests/s")
     for kind in ("plain", "hit", "form"):
         print(f"{kind:8}  {rate(RULES, count, repeat, kind):12.0f}", flush=True)
-    print("\nrules       requests/s")
+    detection = len(detection_rules(RULES.read_text()))
+    print("\ndetection rules  requests/s")
     with tempfile.TemporaryDirectory() as folder:
         for times in (1, 2, 4, 8, 16):
             file = Path(folder) / f"{times}.rules"
             file.write_text(grown(times))
-            print(f"{file.read_text().count('id:'):8}  {rate(file, count, repeat):12.0f}", flush=True)
+            print(f"{detection * times:15}  {rate(file, count, repeat):10.0f}", flush=True)
     print("\nbytes       requests/s")
     for size in (500, 1000, 2000, 4000, 8000):
         print(f"{size:8}  {rate(RULES, count, repeat, 'form', size):12.0f}", flush=True)
