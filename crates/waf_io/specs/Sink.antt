@@ -1,5 +1,6 @@
 -- What a write does to the bytes that are held and to the count of faults.
-use Rattle.std.specs.Prelude.{◌≡◌, ℕ, ◌<◌, ◌≤◌, List, ◌++◌, length, take, Option, Some, None}
+use Rattle.std.specs.Prelude.{◌≡◌, ℕ, ◌<◌, ◌≤◌, ◌+◌, List, ◌++◌, length, take, cond, nat_le, Option, Some, None}
+use Rattle.waf_io.specs.Schedule.{Failing}
 use Rattle.waf_io.specs.declared.sink.Took as took
 use Rattle.waf_io.specs.declared.sink.Took.TheVariants.{Bytes, Failed}
 
@@ -12,10 +13,20 @@ abbrev pub Writes : took.Took → List ℕ → Option (List ℕ) → Option (Lis
 Writes (Bytes n) piece before held = (n ≤ length piece) × (0 < length piece → 0 < n) × Adds before (take n piece) held
 Writes Failed piece before held = held ≡ before
 
--- what a sink that may fail is seen as: what it holds, where it is told, the number of writes so far, those that fail,
--- and how many have
-pub record FaultyHeld : Type 0 where
+-- bytes that are held in room for so many, as long as they fit
+pub record Kept : Type 0 where
   pub held : Option (List ℕ)
-  pub calls : ℕ
-  pub failing : List ℕ
-  pub faults : ℕ
+  pub room : ℕ
+
+abbrev pub held_after : List ℕ → ℕ → Option (List ℕ) → Option (List ℕ)
+held_after piece room None = None
+held_after piece room (Some held) = cond (nat_le (length held + length piece) room) (Some (held ++ piece)) None
+
+-- a piece that fits is held behind the others; from the first that does not, nothing is told
+abbrev pub kept_after : List ℕ → Kept → Kept
+kept_after piece k = record { held = held_after piece k.room k.held; room = k.room }
+
+-- what a sink that may fail is seen as
+pub record FaultyKept : Type 0 where
+  pub kept : Kept
+  pub schedule : Failing

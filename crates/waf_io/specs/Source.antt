@@ -1,6 +1,7 @@
 -- What a read does to the bytes that are left and to the counts.
 use Rattle.std.specs.Prelude.{◌≡◌, ℕ, ◌<◌, ◌≤◌, List, [], length, take, drop, Option, Some, None, IfSome}
 use Rattle.waf_io.specs.Counts.{one_more}
+use Rattle.waf_io.specs.Schedule.{Failing}
 use Rattle.waf_io.specs.declared.source.Got as got
 use Rattle.waf_io.specs.declared.source.Got.TheVariants.{Bytes, End, Failed}
 
@@ -25,9 +26,7 @@ pub record Left : Type 0 where
   pub bytes : List ℕ
   pub ends : ℕ
 
--- the same, with the number of reads so far, those that fail, and how many have
+-- the same, of which some reads are to fail
 pub record FaultyLeft : Type 0 where
   pub left : Left
-  pub calls : ℕ
-  pub failing : List ℕ
-  pub faults : ℕ
+  pub schedule : Failing

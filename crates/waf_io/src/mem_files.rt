@@ -1,7 +1,10 @@
-ghost use Rattle.std.specs.Prelude.{◌≡◌, [], Some};
+ghost use Rattle.std.specs.Prelude.{◌≡◌, ◌≢◌, ◌↔◌, ◌≤◌, [], Some, true};
 ghost use Rattle.std.specs.Option.{option_copied};
-ghost use Rattle.waf_io.specs.Files.{content_of};
+ghost use Rattle.waf_io.specs.Counts.{Rose};
+ghost use Rattle.waf_io.specs.Files.{Answers, content_of, IsWithin};
+ghost use Rattle.waf_io.specs.Schedule.{after_call, fails_at, fails_next};
 
+use crate::schedule::Schedule;
 use crate::{FileAnswer, Files};
 use std::alloc::Global;
 use std::marker::Model;
@@ -16,11 +19,11 @@ pub struct MemFile {
 
 /// Files in memory. No reading of them fails. Of two with one name the first counts.
 #[derive(Drop)]
-pub struct SureFiles {
+pub struct InfallibleFiles {
     files: Seq<MemFile>,
 }
 
-impl Model for SureFiles {
+impl Model for InfallibleFiles {
     ghost use Rattle.std.specs.Prelude.{List};
     ghost use Rattle.waf_io.specs.declared.mem_files.MemFile.{MemFile};
 
@@ -29,21 +32,26 @@ impl Model for SureFiles {
     ghost view = { λ s. s.files };
 }
 
-impl SureFiles {
+impl InfallibleFiles {
     /// These files.
-    pub fn new(files: Seq<MemFile>) -> SureFiles
+    pub fn new(files: Seq<MemFile>) -> InfallibleFiles
         ensures { result ≡ files }
     {
-        SureFiles { files }
+        InfallibleFiles { files }
     }
 }
 
-impl Files for SureFiles {
+impl Files for InfallibleFiles {
     ghost content = { λ s. Some (content_of s) };
 
     ghost faults = { λ s. 0 };
 
-    fn read_file(&mut self, alloc: Global, name: &[u8], most: u64) -> FileAnswer {
+    fn read_file(&mut self, alloc: Global, name: &[u8], most: u64) -> FileAnswer
+        ensures answer { Answers result (Some (content_of self.old)) name.now most }
+        ensures within { IsWithin result most }
+        ensures same { self.new ≡ self.old }
+        ensures read { result ≢ FileAnswer.Failed }
+    {
         match find(self.files.as_slice(), name) {
             None => FileAnswer::Absent,
             Some(content) if content.len() as u64 > most => FileAnswer::TooLong,
@@ -70,10 +78,8 @@ fn find<'a>(files: &'a [MemFile], name: &[u8]) -> Option<&'a [u8]>
 /// Files in memory, where the readings that a list names fail, counted from 0.
 #[derive(Drop)]
 pub struct MemFiles {
-    files: SureFiles,
-    calls: u64,
-    failing: Seq<u64>,
-    faults: u64,
+    files: InfallibleFiles,
+    schedule: Schedule,
 }
 
 impl Model for MemFiles {
@@ -81,19 +87,17 @@ impl Model for MemFiles {
 
     ghost Value = { FaultyFiles };
 
-    ghost view = { λ s. record { files = s.files; calls = s.calls; failing = s.failing; faults = s.faults } };
+    ghost view = { λ s. record { files = s.files; schedule = s.schedule } };
 }
 
 impl MemFiles {
     /// These files, failing at the calls that the list names.
     pub fn new(files: Seq<MemFile>, failing: Seq<u64>) -> MemFiles
-        ensures { result ≡ record { files = files; calls = 0; failing = failing; faults = 0 } }
+        ensures { result ≡ record { files = files; schedule = fails_at failing } }
     {
         MemFiles {
-            files: SureFiles::new(files),
-            calls: 0,
-            failing,
-            faults: 0,
+            files: InfallibleFiles::new(files),
+            schedule: Schedule::new(failing),
         }
     }
 }
@@ -101,13 +105,18 @@ impl MemFiles {
 impl Files for MemFiles {
     ghost content = { λ s. Some (content_of s.files) };
 
-    ghost faults = { λ s. s.faults };
+    ghost faults = { λ s. s.schedule.faults };
 
-    fn read_file(&mut self, alloc: Global, name: &[u8], most: u64) -> FileAnswer {
-        let call = self.calls;
-        self.calls = call.saturating_add(1);
-        if self.failing.as_slice().contains(&call) {
-            self.faults = self.faults.saturating_add(1);
+    fn read_file(&mut self, alloc: Global, name: &[u8], most: u64) -> FileAnswer
+        ensures answer { Answers result (Some (content_of self.old.files)) name.now most }
+        ensures within { IsWithin result most }
+        ensures same { self.new.files ≡ self.old.files }
+        ensures later { self.old.schedule.faults ≤ self.new.schedule.faults }
+        ensures cause { result ≡ FileAnswer.Failed → Rose self.old.schedule.faults self.new.schedule.faults }
+        ensures fails { (result ≡ FileAnswer.Failed) ↔ (fails_next self.old.schedule ≡ true) }
+        ensures counted { self.new.schedule ≡ after_call self.old.schedule }
+    {
+        if self.schedule.fails_next() {
             return FileAnswer::Failed;
         }
         self.files.read_file(alloc, name, most)

@@ -1,104 +1,44 @@
-ghost use Rattle.std.specs.Prelude.{◌≡◌, [], IfOk, IfSome, Some};
+ghost use Rattle.std.specs.Prelude.{◌≡◌, ◌↔◌, ◌≢◌, ◌≤◌, [], cond, IfOk, IfSome, length, Some, true};
+ghost use Rattle.waf_io.specs.Counts.{Rose};
+ghost use Rattle.waf_io.specs.Schedule.{after_call, fails_at, fails_next};
+ghost use Rattle.waf_io.specs.Sink.{kept_after, Writes};
 
+use crate::schedule::Schedule;
 use crate::{Sink, Took};
 use std::alloc::Global;
 use std::marker::Model;
-use waf_plain::{Bytes, NoMemory, Seq};
+use waf_plain::{NoMemory, Seq};
 
-/// Bytes that are kept in memory, in room that was made before. No write fails; from the first piece on
-/// that does not fit, the sink takes each piece whole and tells nothing any more.
+/// Bytes that are kept in memory, in room that was made before. No write fails, and each takes its piece
+/// whole; from the first piece on that does not fit, the sink tells nothing any more.
 #[derive(Drop)]
-pub struct SureSink {
-    bytes: Bytes,
+pub struct InfallibleSink {
+    bytes: Vec<u8>,
     room: usize,
-    spilled: bool,
+    is_spilled: bool,
 }
 
-impl Model for SureSink {
-    ghost use Rattle.std.specs.Prelude.{cond, List, None, Option, Some, ℕ};
+impl Model for InfallibleSink {
+    ghost use Rattle.std.specs.Prelude.{◌≤◌, cond, None, Some, vec_capacity, vec_len};
+    ghost use Rattle.waf_io.specs.Sink.{Kept};
 
-    ghost Value = { Option (List ℕ) };
+    ghost Value = { Kept };
 
-    ghost view = { λ s. cond s.spilled None (Some s.bytes) };
+    ghost view = { λ s. record { held = cond s.is_spilled None (Some s.bytes.items); room = s.room } };
+
+    ghost invariant = { λ s. (vec_len s.bytes ≤ s.room) × (s.room ≤ vec_capacity s.bytes) };
 }
 
-impl SureSink {
+impl InfallibleSink {
     /// A sink that holds nothing, with room for so many bytes.
-    pub fn new(alloc: Global, room: usize) -> Result<SureSink, NoMemory>
-        ensures { IfOk result (λ sink. sink ≡ Some []) }
+    pub fn new(alloc: Global, room: usize) -> Result<InfallibleSink, NoMemory>
+        ensures { IfOk result (λ sink. sink ≡ record { held = Some []; room = room }) }
     {
-        let bytes = Bytes::from_vec(Vec::with_capacity(alloc, room)?);
-        Ok(SureSink {
+        let bytes = Vec::with_capacity(alloc, room)?;
+        Ok(InfallibleSink {
             bytes,
             room,
-            spilled: false,
-        })
-    }
-
-    /// What is held, while it is told.
-    pub fn bytes(&self) -> &[u8]
-        ensures { IfSome self.now (λ held. result.now ≡ held) }
-    {
-        self.bytes.as_slice()
-    }
-
-    // Keeps a piece, where it fits.
-    fn keep(&mut self, piece: &[u8])
-        ensures { Adds self.old piece.now self.new }
-    {
-        if self.spilled {
-            return;
-        }
-        if piece.len() > self.room.saturating_sub(self.bytes.len()) {
-            self.spilled = true;
-            return;
-        }
-        self.spilled = self.bytes.append(piece).is_err();
-    }
-}
-
-ghost use Rattle.waf_io.specs.Sink.{Adds};
-
-impl Sink for SureSink {
-    ghost held = { λ s. s };
-
-    ghost faults = { λ s. 0 };
-
-    fn write(&mut self, piece: &[u8]) -> Took {
-        self.keep(piece);
-        Took::Bytes(piece.len() as u64)
-    }
-}
-
-/// A `SureSink` where the writes that a list names fail, counted from 0.
-#[derive(Drop)]
-pub struct MemSink {
-    sink: SureSink,
-    calls: u64,
-    failing: Seq<u64>,
-    faults: u64,
-}
-
-impl Model for MemSink {
-    ghost use Rattle.waf_io.specs.Sink.{FaultyHeld};
-
-    ghost Value = { FaultyHeld };
-
-    ghost view = { λ s. record { held = s.sink; calls = s.calls; failing = s.failing; faults = s.faults } };
-}
-
-impl MemSink {
-    /// A sink that holds nothing, with room for so many bytes, that fails at the calls that the list
-    /// names.
-    pub fn new(alloc: Global, room: usize, failing: Seq<u64>) -> Result<MemSink, NoMemory>
-        ensures { IfOk result (λ sink. sink ≡ record { held = Some []; calls = 0; failing = failing; faults = 0 }) }
-    {
-        let sink = SureSink::new(alloc, room)?;
-        Ok(MemSink {
-            sink,
-            calls: 0,
-            failing,
-            faults: 0,
+            is_spilled: false,
         })
     }
 
@@ -106,20 +46,87 @@ impl MemSink {
     pub fn bytes(&self) -> &[u8]
         ensures { IfSome self.now.held (λ held. result.now ≡ held) }
     {
+        self.bytes.as_slice()
+    }
+
+    // Keeps a piece, where it fits.
+    fn keep(&mut self, piece: &[u8])
+        ensures { self.new ≡ kept_after piece.now self.old }
+    {
+        if self.is_spilled || piece.len() > self.room - self.bytes.len() {
+            self.is_spilled = true;
+            return;
+        }
+        self.is_spilled = self.bytes.extend_from_slice(piece).is_err();
+    }
+}
+
+impl Sink for InfallibleSink {
+    ghost held = { λ s. s.held };
+
+    ghost faults = { λ s. 0 };
+
+    fn write(&mut self, piece: &[u8]) -> Took
+        ensures bytes { Writes result piece.now self.old.held self.new.held }
+        ensures whole { result ≡ Took.Bytes (length piece.now) }
+        ensures kept { self.new ≡ kept_after piece.now self.old }
+    {
+        self.keep(piece);
+        Took::Bytes(piece.len() as u64)
+    }
+}
+
+/// An `InfallibleSink` but that the writes that a list names fail, counted from 0.
+#[derive(Drop)]
+pub struct MemSink {
+    sink: InfallibleSink,
+    schedule: Schedule,
+}
+
+impl Model for MemSink {
+    ghost use Rattle.waf_io.specs.Sink.{FaultyKept};
+
+    ghost Value = { FaultyKept };
+
+    ghost view = { λ s. record { kept = s.sink; schedule = s.schedule } };
+}
+
+impl MemSink {
+    /// A sink that holds nothing, with room for so many bytes, that fails at the calls that the list
+    /// names.
+    pub fn new(alloc: Global, room: usize, failing: Seq<u64>) -> Result<MemSink, NoMemory>
+        ensures { IfOk result (λ sink. sink ≡ record { kept = record { held = Some []; room = room }; schedule = fails_at failing }) }
+    {
+        let sink = InfallibleSink::new(alloc, room)?;
+        Ok(MemSink {
+            sink,
+            schedule: Schedule::new(failing),
+        })
+    }
+
+    /// What is held, while it is told.
+    pub fn bytes(&self) -> &[u8]
+        ensures { IfSome self.now.kept.held (λ held. result.now ≡ held) }
+    {
         self.sink.bytes()
     }
 }
 
 impl Sink for MemSink {
-    ghost held = { λ s. s.held };
+    ghost held = { λ s. s.kept.held };
 
-    ghost faults = { λ s. s.faults };
+    ghost faults = { λ s. s.schedule.faults };
 
-    fn write(&mut self, piece: &[u8]) -> Took {
-        let call = self.calls;
-        self.calls = call.saturating_add(1);
-        if self.failing.as_slice().contains(&call) {
-            self.faults = self.faults.saturating_add(1);
+    fn write(&mut self, piece: &[u8]) -> Took
+        ensures bytes { Writes result piece.now self.old.kept.held self.new.kept.held }
+        ensures later { self.old.schedule.faults ≤ self.new.schedule.faults }
+        ensures cause { result ≡ Took.Failed → Rose self.old.schedule.faults self.new.schedule.faults }
+        ensures fails { (result ≡ Took.Failed) ↔ (fails_next self.old.schedule ≡ true) }
+        ensures counted { self.new.schedule ≡ after_call self.old.schedule }
+        ensures whole { result ≢ Took.Failed → result ≡ Took.Bytes (length piece.now) }
+        ensures kept { self.new.kept ≡ cond (fails_next self.old.schedule) self.old.kept (kept_after piece.now self.old.kept) }
+    {
+        if self.schedule.fails_next() {
             return Took::Failed;
         }
         self.sink.write(piece)

@@ -1,18 +1,22 @@
-ghost use Rattle.std.specs.Prelude.{◌≡◌, [], length, min, Some, take};
+ghost use Rattle.std.specs.Prelude.{◌≡◌, ◌↔◌, ◌≤◌, [], length, min, Some, take, true};
+ghost use Rattle.waf_io.specs.Counts.{Rose};
+ghost use Rattle.waf_io.specs.Schedule.{after_call, fails_at, fails_next};
+ghost use Rattle.waf_io.specs.Source.{CountsEnd, Reads};
 
+use crate::schedule::Schedule;
 use crate::{Got, Source};
 use std::marker::Model;
 use waf_plain::{Bytes, Seq};
 
 /// Bytes in memory. No read of them fails.
 #[derive(Drop)]
-pub struct SureSource {
+pub struct InfallibleSource {
     bytes: Bytes,
     at: usize,
     ends: u64,
 }
 
-impl Model for SureSource {
+impl Model for InfallibleSource {
     ghost use Rattle.std.specs.Prelude.{drop, ◌≤◌, length};
     ghost use Rattle.waf_io.specs.Source.{Left};
 
@@ -23,12 +27,12 @@ impl Model for SureSource {
     ghost invariant = { λ s. s.at ≤ length s.bytes };
 }
 
-impl SureSource {
+impl InfallibleSource {
     /// A source that gives these bytes.
-    pub fn new(bytes: Bytes) -> SureSource
+    pub fn new(bytes: Bytes) -> InfallibleSource
         ensures { result ≡ record { bytes = bytes; ends = 0 } }
     {
-        SureSource {
+        InfallibleSource {
             bytes,
             at: 0,
             ends: 0,
@@ -36,7 +40,7 @@ impl SureSource {
     }
 }
 
-impl Source for SureSource {
+impl Source for InfallibleSource {
     ghost left = { λ s. Some s.bytes };
 
     ghost faults = { λ s. 0 };
@@ -68,10 +72,8 @@ fn copy_front(from: &[u8], into: &mut [u8]) -> usize
 /// Bytes in memory, where the reads that a list names fail, counted from 0.
 #[derive(Drop)]
 pub struct MemSource {
-    source: SureSource,
-    calls: u64,
-    failing: Seq<u64>,
-    faults: u64,
+    source: InfallibleSource,
+    schedule: Schedule,
 }
 
 impl Model for MemSource {
@@ -79,19 +81,17 @@ impl Model for MemSource {
 
     ghost Value = { FaultyLeft };
 
-    ghost view = { λ s. record { left = s.source; calls = s.calls; failing = s.failing; faults = s.faults } };
+    ghost view = { λ s. record { left = s.source; schedule = s.schedule } };
 }
 
 impl MemSource {
     /// A source that gives these bytes, and fails at the calls that the list names.
     pub fn new(bytes: Bytes, failing: Seq<u64>) -> MemSource
-        ensures { result ≡ record { left = record { bytes = bytes; ends = 0 }; calls = 0; failing = failing; faults = 0 } }
+        ensures { result ≡ record { left = record { bytes = bytes; ends = 0 }; schedule = fails_at failing } }
     {
         MemSource {
-            source: SureSource::new(bytes),
-            calls: 0,
-            failing,
-            faults: 0,
+            source: InfallibleSource::new(bytes),
+            schedule: Schedule::new(failing),
         }
     }
 }
@@ -99,15 +99,19 @@ impl MemSource {
 impl Source for MemSource {
     ghost left = { λ s. Some s.left.bytes };
 
-    ghost faults = { λ s. s.faults };
+    ghost faults = { λ s. s.schedule.faults };
 
     ghost ends = { λ s. s.left.ends };
 
-    fn read(&mut self, into: &mut [u8]) -> Got {
-        let call = self.calls;
-        self.calls = call.saturating_add(1);
-        if self.failing.as_slice().contains(&call) {
-            self.faults = self.faults.saturating_add(1);
+    fn read(&mut self, into: &mut [u8]) -> Got
+        ensures bytes { Reads result into.new (Some self.old.left.bytes) (Some self.new.left.bytes) }
+        ensures later { self.old.schedule.faults ≤ self.new.schedule.faults }
+        ensures cause { result ≡ Got.Failed → Rose self.old.schedule.faults self.new.schedule.faults }
+        ensures end { CountsEnd result self.old.left.ends self.new.left.ends }
+        ensures fails { (result ≡ Got.Failed) ↔ (fails_next self.old.schedule ≡ true) }
+        ensures counted { self.new.schedule ≡ after_call self.old.schedule }
+    {
+        if self.schedule.fails_next() {
             return Got::Failed;
         }
         self.source.read(into)

@@ -1,5 +1,7 @@
-ghost use Rattle.std.specs.Prelude.{◌≡◌, None};
+ghost use Rattle.std.specs.Prelude.{◌≡◌, ◌≤◌, IsNone, None};
+ghost use Rattle.waf_io.specs.Counts.{Rose};
 ghost use Rattle.waf_io.specs.Files.{IsWithin};
+ghost use Rattle.waf_io.specs.Names.{NamesNoFile, unopened};
 
 use crate::{FileAnswer, Files, Got, Sink, Source, Took};
 use std::alloc::Global;
@@ -87,7 +89,14 @@ impl<W: Write> Sink for WriteSink<W> {
     }
 }
 
-/// The files of the system. They tell nothing of their content. A name that is not UTF-8 is absent.
+/// The files of the system. They tell nothing of their content.
+///
+/// | Name | Answer |
+/// |---|---|
+/// | of no file, also where a directory on the way is missing, or is a file | `Absent` |
+/// | that no file can have: no UTF-8, a byte 0, or longer than the system takes | `Absent` |
+/// | of a directory | `Failed` |
+/// | of a file that may not be read | `Failed` |
 #[derive(Drop)]
 pub struct RealFiles<'a, R: SystemFiles> {
     rt: &'a R,
@@ -108,19 +117,50 @@ impl<'a, R: SystemFiles> Files for RealFiles<'a, R> {
 
     ghost faults = { λ s. s.faults };
 
-    fn read_file(&mut self, alloc: Global, name: &[u8], most: u64) -> FileAnswer {
-        let Ok(path) = std::str::from_utf8(name) else {
+    fn read_file(&mut self, alloc: Global, name: &[u8], most: u64) -> FileAnswer
+        ensures within { IsWithin result most }
+        ensures later { self.old.faults ≤ self.new.faults }
+        ensures cause { result ≡ FileAnswer.Failed → Rose self.old.faults self.new.faults }
+        ensures nameless { NamesNoFile name.now → result ≡ FileAnswer.Absent }
+    {
+        let Some(path) = path_of(name) else {
             return FileAnswer::Absent;
         };
         let answer = match std::fs::open(self.rt, path) {
             Ok(mut file) => read_all(alloc, &mut file, most),
-            Err(error) if error.kind() == ErrorKind::NotFound => FileAnswer::Absent,
-            Err(_) => FileAnswer::Failed,
+            Err(error) => unopened(error.kind()),
         };
         if let FileAnswer::Failed = &answer {
             self.faults = self.faults.saturating_add(1);
         }
         answer
+    }
+}
+
+// The path of that name, where a file may have it.
+fn path_of(name: &[u8]) -> Option<&str>
+    ensures { NamesNoFile name.now → IsNone result }
+{
+    if name.contains(&0) {
+        return None;
+    }
+    match std::str::from_utf8(name) {
+        Ok(path) => Some(path),
+        Err(_) => None,
+    }
+}
+
+// The answer for a file that could not be opened.
+fn unopened(kind: ErrorKind) -> FileAnswer
+    ensures { result ≡ unopened kind }
+{
+    match kind {
+        ErrorKind::NotFound
+        | ErrorKind::NotADirectory
+        | ErrorKind::InvalidFilename
+        | ErrorKind::InvalidInput => FileAnswer::Absent,
+        ErrorKind::OutOfMemory => FileAnswer::NoMemory,
+        _ => FileAnswer::Failed,
     }
 }
 
