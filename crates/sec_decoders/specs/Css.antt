@@ -42,4 +42,5 @@ at_end (s ∷ []) = cond (s == 92) (Some ([], 1)) None
 at_end other = None
 
 abbrev pub css : List ℕ → Piece
-css front = or_else (css_number front) (or_else (joined_line front) (or_else (plain_byte front) (or_else (at_end front) (itself front))))
+css front =
+    or_else (css_number front) (or_else (joined_line front) (or_else (plain_byte front) (or_else (at_end front) (itself front))))

@@ -3,23 +3,25 @@ ghost use Rattle.std.specs.Option.{option_map};
 ghost use Rattle.std.specs.List.{take_while};
 ghost use Rattle.sec_decoders.specs.Digits.{is_hex, number_in};
 ghost use Rattle.sec_decoders.specs.Pieces.{pieces};
+ghost use Rattle.sec_decoders.specs.declared.pieces.TheConstants.{LIMIT};
 ghost use Rattle.sec_decoders.specs.Css.{css, css_number, css_digits, space};
 
 use crate::digits::{digit_of, is_hex};
-use crate::{Decoder, Piece, decode, narrow};
+use crate::url::narrow;
+use crate::{Decoder, Piece, decode};
 use std::alloc::Global;
 use waf_plain::{Bytes, NoMemory};
 
 /// `cssDecode` of the ModSecurity reference manual: the `\` escapes of CSS 2, section 4.1.3, of
 /// which the low byte is taken. A `\` before a line feed or at the end gives nothing.
 pub fn css_decode(alloc: Global, value: &[u8]) -> Result<Bytes, NoMemory>
-    ensures { IfOk result (λ bytes. bytes ≡ take 1048576 (pieces css 0 value.now)) }
+    ensures { IfOk result (λ bytes. bytes ≡ take LIMIT (pieces css 0 value.now)) }
 {
     decode(alloc, &Css, value)
 }
 
 /// The escapes of CSS.
-pub struct Css;
+struct Css;
 
 impl Decoder for Css {
     ghost piece = { css };

@@ -3,7 +3,7 @@ ghost use Rattle.std.specs.List.{take_while};
 ghost use Rattle.sec_decoders.specs.Digits.{hex_digit, hex_number, is_hex, is_octal, digit_of, number_in};
 
 /// The number of a hexadecimal digit, of either case.
-pub fn hex_digit(byte: u8) -> Option<u8>
+fn hex_digit(byte: u8) -> Option<u8>
     ensures digit { result ≡ hex_digit byte }
     ensures small { IfSome result (λ n. n < 16) }
 {
@@ -16,7 +16,7 @@ pub fn hex_digit(byte: u8) -> Option<u8>
 }
 
 /// The number of two hexadecimal digits.
-pub fn hex_pair(a: u8, b: u8) -> Option<u8>
+pub(crate) fn hex_pair(a: u8, b: u8) -> Option<u8>
     ensures { result ≡ hex_number (a ∷ b ∷ []) }
 {
     let high = hex_digit(a)?;
@@ -25,7 +25,7 @@ pub fn hex_pair(a: u8, b: u8) -> Option<u8>
 }
 
 /// The number of four hexadecimal digits.
-pub fn hex_four(a: u8, b: u8, c: u8, d: u8) -> Option<u16>
+pub(crate) fn hex_four(a: u8, b: u8, c: u8, d: u8) -> Option<u16>
     ensures { result ≡ hex_number (a ∷ b ∷ c ∷ d ∷ []) }
 {
     let a = u16::from(hex_digit(a)?);
@@ -36,7 +36,7 @@ pub fn hex_four(a: u8, b: u8, c: u8, d: u8) -> Option<u16>
 }
 
 /// Whether a byte is a hexadecimal digit.
-pub fn is_hex(byte: u8) -> bool
+pub(crate) fn is_hex(byte: u8) -> bool
     ensures { result ≡ is_hex byte }
 {
     hex_digit(byte).is_some()

@@ -5,6 +5,7 @@ ghost use Rattle.std.specs.Char.{to_ascii_lowercase};
 ghost use Rattle.std.specs.Str.{bytes_eq};
 ghost use Rattle.sec_decoders.specs.Digits.{is_hex, is_decimal};
 ghost use Rattle.sec_decoders.specs.Pieces.{pieces};
+ghost use Rattle.sec_decoders.specs.declared.pieces.TheConstants.{LIMIT};
 ghost use Rattle.sec_decoders.specs.Entities.{semicolon, hex_entity, decimal_entity, numbered, named, name_entity, entities};
 
 use crate::digits::{is_hex, low_byte};
@@ -15,13 +16,13 @@ use waf_plain::{Bytes, NoMemory};
 /// `htmlEntityDecode` of the ModSecurity reference manual: numbers in hexadecimal and decimal, of
 /// which the low byte is taken, and five names. The `;` may be missing.
 pub fn html_entity_decode(alloc: Global, value: &[u8]) -> Result<Bytes, NoMemory>
-    ensures { IfOk result (λ bytes. bytes ≡ take 1048576 (pieces entities 0 value.now)) }
+    ensures { IfOk result (λ bytes. bytes ≡ take LIMIT (pieces entities 0 value.now)) }
 {
     decode(alloc, &Entities, value)
 }
 
 /// The character references of HTML.
-pub struct Entities;
+struct Entities;
 
 impl Decoder for Entities {
     ghost piece = { entities };

@@ -1,6 +1,7 @@
 ghost use Rattle.std.specs.Prelude.{◌≡◌, ◌<◌, ◌≤◌, OnSome, IfSome, [], ◌∷◌, length, take, IfOk};
 ghost use Rattle.std.specs.Option.{option_map};
 ghost use Rattle.sec_decoders.specs.Pieces.{pieces};
+ghost use Rattle.sec_decoders.specs.declared.pieces.TheConstants.{LIMIT};
 ghost use Rattle.sec_decoders.specs.EscapeSequences.{escaped_x, escaped_octal, escape_sequences};
 
 use crate::digits::hex_pair;
@@ -12,13 +13,13 @@ use waf_plain::{Bytes, NoMemory};
 /// `escapeSeqDecode` of the ModSecurity reference manual: the escape sequences of ANSI C. A `\` at
 /// the end stays.
 pub fn escape_seq_decode(alloc: Global, value: &[u8]) -> Result<Bytes, NoMemory>
-    ensures { IfOk result (λ bytes. bytes ≡ take 1048576 (pieces escape_sequences 0 value.now)) }
+    ensures { IfOk result (λ bytes. bytes ≡ take LIMIT (pieces escape_sequences 0 value.now)) }
 {
     decode(alloc, &EscapeSequences, value)
 }
 
 /// The escape sequences of ANSI C.
-pub struct EscapeSequences;
+struct EscapeSequences;
 
 impl Decoder for EscapeSequences {
     ghost piece = { escape_sequences };

@@ -1,24 +1,26 @@
 ghost use Rattle.std.specs.Prelude.{◌≡◌, ◌<◌, ◌≤◌, OnSome, IfSome, [], ◌∷◌, length, take, IfOk};
 ghost use Rattle.std.specs.Option.{option_map};
 ghost use Rattle.sec_decoders.specs.Pieces.{pieces};
+ghost use Rattle.sec_decoders.specs.declared.pieces.TheConstants.{LIMIT};
 ghost use Rattle.sec_decoders.specs.UrlUni.{narrowed};
 ghost use Rattle.sec_decoders.specs.JavaScript.{backslash_u, backslash_x, backslash_octal, ansi, js};
 
 use crate::digits::{hex_four, hex_pair};
-use crate::{Decoder, Piece, decode, narrow};
+use crate::url::narrow;
+use crate::{Decoder, Piece, decode};
 use std::alloc::Global;
 use waf_plain::{Bytes, NoMemory};
 
 /// `jsDecode` of the ModSecurity reference manual: the `\` escapes of JavaScript. A `\` at the end
 /// stays.
 pub fn js_decode(alloc: Global, value: &[u8]) -> Result<Bytes, NoMemory>
-    ensures { IfOk result (λ bytes. bytes ≡ take 1048576 (pieces js 0 value.now)) }
+    ensures { IfOk result (λ bytes. bytes ≡ take LIMIT (pieces js 0 value.now)) }
 {
     decode(alloc, &JavaScript, value)
 }
 
 /// The escapes of JavaScript.
-pub struct JavaScript;
+struct JavaScript;
 
 impl Decoder for JavaScript {
     ghost piece = { js };

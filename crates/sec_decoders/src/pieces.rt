@@ -1,5 +1,6 @@
 ghost use Rattle.std.specs.Prelude.{◌≡◌, ◌<◌, ◌≤◌, [], ◌∷◌, List, ℕ, length, take, IfOk};
 ghost use Rattle.sec_decoders.specs.Pieces.{pieces};
+ghost use Rattle.sec_decoders.specs.declared.pieces.TheConstants.{LIMIT};
 
 use arrayvec::ArrayVec;
 use std::alloc::Global;
@@ -55,7 +56,7 @@ pub trait Decoder {
 /// The first `LIMIT` bytes of what the pieces of a value give, in one pass. What is written is not
 /// read again.
 pub fn decode<D: Decoder>(alloc: Global, decoder: &D, value: &[u8]) -> Result<Bytes, NoMemory>
-    ensures { IfOk result (λ bytes. bytes ≡ take 1048576 (pieces D.piece 0 value.now)) }
+    ensures { IfOk result (λ bytes. bytes ≡ take LIMIT (pieces D.piece 0 value.now)) }
 {
     let mut out = Bytes::new(alloc);
     let mut rest = value;

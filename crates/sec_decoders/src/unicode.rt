@@ -1,6 +1,7 @@
 ghost use Rattle.std.specs.Prelude.{◌≡◌, ◌<◌, ◌≤◌, ◌%◌, ◌++◌, length, take, IfOk, IfSome};
 ghost use Rattle.arrayvec.specs.ArrayVec.{array_vec_len};
 ghost use Rattle.sec_decoders.specs.Pieces.{pieces};
+ghost use Rattle.sec_decoders.specs.declared.pieces.TheConstants.{LIMIT};
 ghost use Rattle.sec_decoders.specs.Unicode.{letter, four_digits, shown, two, three, four, unicode};
 
 use crate::{Decoder, Piece, decode};
@@ -12,13 +13,13 @@ use waf_plain::{Bytes, NoMemory};
 /// (RFC 3629, section 3) is shown as `%u` and its number, overlong ones and surrogates too. All
 /// other bytes stay.
 pub fn utf8_to_unicode(alloc: Global, value: &[u8]) -> Result<Bytes, NoMemory>
-    ensures { IfOk result (λ bytes. bytes ≡ take 1048576 (pieces unicode 0 value.now)) }
+    ensures { IfOk result (λ bytes. bytes ≡ take LIMIT (pieces unicode 0 value.now)) }
 {
     decode(alloc, &Unicode, value)
 }
 
 /// The sequences of UTF-8, by their lead bytes alone.
-pub struct Unicode;
+struct Unicode;
 
 impl Decoder for Unicode {
     ghost piece = { unicode };

@@ -1,6 +1,7 @@
 ghost use Rattle.std.specs.Prelude.{◌≡◌, ◌<◌, ◌≤◌, OnSome, [], ◌∷◌, length, take, IfOk};
 ghost use Rattle.std.specs.Option.{option_map};
 ghost use Rattle.sec_decoders.specs.Pieces.{pieces};
+ghost use Rattle.sec_decoders.specs.declared.pieces.TheConstants.{LIMIT};
 ghost use Rattle.sec_decoders.specs.UrlUni.{narrowed, percent_u, percent, plus, url_uni};
 
 use crate::digits::{hex_four, hex_pair};
@@ -11,13 +12,13 @@ use waf_plain::{Bytes, NoMemory};
 /// `urlDecodeUni` of the ModSecurity reference manual: percent-encoding, `+` for a space, and the
 /// `%uHHHH` of IIS, of which a full-width letter gives its narrow form. Other `%` stay.
 pub fn url_decode_uni(alloc: Global, value: &[u8]) -> Result<Bytes, NoMemory>
-    ensures { IfOk result (λ bytes. bytes ≡ take 1048576 (pieces url_uni 0 value.now)) }
+    ensures { IfOk result (λ bytes. bytes ≡ take LIMIT (pieces url_uni 0 value.now)) }
 {
     decode(alloc, &UrlUni, value)
 }
 
 /// Percent-encoding with `%uHHHH`.
-pub struct UrlUni;
+struct UrlUni;
 
 impl Decoder for UrlUni {
     ghost piece = { url_uni };
@@ -57,7 +58,7 @@ fn pair(front: &[u8]) -> Option<u8>
 }
 
 /// The low byte of a number, or, for a full-width form (U+FF01 to U+FF5E), the letter itself.
-pub fn narrow(n: u32) -> u8
+pub(crate) fn narrow(n: u32) -> u8
     ensures { result ≡ narrowed n }
 {
     if (0xff01..=0xff5e).contains(&n) {

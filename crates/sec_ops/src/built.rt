@@ -81,7 +81,8 @@ enum Test {
 /// Builds an operator (ModSecurity reference manual, "Operators").
 pub fn build(alloc: Global, op: &Op) -> Result<Built, BuildFault>
     ensures ok { IfOk result (λ built. built ≡ op.now) }
-    ensures bad { IfErr result (λ e. e ≡ BuildFault.BadPattern → (op.now.kind ≡ Rx) × (source_reading (source_of op.now.text) ≡ None)) }
+    ensures bad { IfErr result (λ e. e ≡ BuildFault.BadPattern
+        → (op.now.kind ≡ Rx) × (source_reading (source_of op.now.text) ≡ None)) }
     ensures read { IfOk result (λ _. op.now.kind ≡ Rx → IsSome (source_reading (source_of op.now.text))) }
 
     // No set of addresses is built of a word that names none.
@@ -99,7 +100,8 @@ pub fn build(alloc: Global, op: &Op) -> Result<Built, BuildFault>
 
 fn test_of(alloc: Global, op: &Op) -> Result<Test, BuildFault>
     ensures ok { IfOk result (λ test. IsBuiltFrom test op.now) }
-    ensures bad { IfErr result (λ e. e ≡ BuildFault.BadPattern → (op.now.kind ≡ Rx) × (source_reading (source_of op.now.text) ≡ None)) }
+    ensures bad { IfErr result (λ e. e ≡ BuildFault.BadPattern
+        → (op.now.kind ≡ Rx) × (source_reading (source_of op.now.text) ≡ None)) }
     ensures read { IfOk result (λ _. op.now.kind ≡ Rx → IsSome (source_reading (source_of op.now.text))) }
     ensures word { (at : ℕ) → op.now.kind ≡ IpMatch → IsFirstBad op.now.words at → IsErrOf result BuildFault.NoMemory }
 {
@@ -122,7 +124,8 @@ fn source_of(parts: &[Part]) -> &[u8]
 }
 
 fn pattern_test(alloc: Global, source: &[u8]) -> Result<Test, BuildFault>
-    ensures ok { IfOk result (λ test. (argument value : List ℕ) → IsBytes value → test_hit test argument value ≡ pattern_hit source.now value) }
+    ensures ok { IfOk result (λ test. (argument value : List ℕ)
+        → IsBytes value → test_hit test argument value ≡ pattern_hit source.now value) }
     ensures bad { IfErr result (λ e. e ≡ BuildFault.BadPattern → source_reading source.now ≡ None) }
     ensures read { IfOk result (λ _. IsSome (source_reading source.now)) }
 {
@@ -136,7 +139,8 @@ fn pattern_test(alloc: Global, source: &[u8]) -> Result<Test, BuildFault>
 }
 
 fn phrases_test(alloc: Global, words: &Seq<Bytes>) -> Result<Test, BuildFault>
-    ensures ok { IfOk result (λ test. (argument value : List ℕ) → test_hit test argument value ≡ hit_of Pm [] words.now argument value) }
+    ensures ok { IfOk result (λ test. (argument value : List ℕ)
+        → test_hit test argument value ≡ hit_of Pm [] words.now argument value) }
     ensures err { IfErr result (λ e. e ≡ BuildFault.NoMemory) }
 {
     match fold_all(alloc, words) {
@@ -146,7 +150,8 @@ fn phrases_test(alloc: Global, words: &Seq<Bytes>) -> Result<Test, BuildFault>
 }
 
 fn addresses_test(alloc: Global, words: &Seq<Bytes>) -> Result<Test, BuildFault>
-    ensures ok { IfOk result (λ test. (argument value : List ℕ) → test_hit test argument value ≡ hit_of IpMatch [] words.now argument value) }
+    ensures ok { IfOk result (λ test. (argument value : List ℕ)
+        → test_hit test argument value ≡ hit_of IpMatch [] words.now argument value) }
     ensures err { IfErr result (λ e. e ≡ BuildFault.NoMemory) }
     ensures word { (at : ℕ) → IsFirstBad words.now at → IsErrOf result BuildFault.NoMemory }
 {
@@ -157,7 +162,8 @@ fn addresses_test(alloc: Global, words: &Seq<Bytes>) -> Result<Test, BuildFault>
 }
 
 fn ranges_test(alloc: Global, words: &Seq<Bytes>) -> Result<Test, BuildFault>
-    ensures ok { IfOk result (λ test. (argument value : List ℕ) → test_hit test argument value ≡ hit_of ValidateByteRange [] words.now argument value) }
+    ensures ok { IfOk result (λ test. (argument value : List ℕ)
+        → test_hit test argument value ≡ hit_of ValidateByteRange [] words.now argument value) }
     ensures err { IfErr result (λ e. e ≡ BuildFault.NoMemory) }
 {
     match read_ranges(alloc, words) {

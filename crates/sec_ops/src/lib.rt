@@ -1,4 +1,7 @@
 //! The operators of rules: built once, and asked of many values.
+//!
+//! `holds(&build(alloc, &op)?, argument, value)` answers whether a value has a hit, and the texts of its
+//! groups. The definition is `hit` in `specs/Hits.antt`.
 #![tactic(auto)]
 
 mod built;

@@ -39,7 +39,8 @@ fn builder(source: &str) -> RegexBuilder<'_>
 type Spans = Vec<Option<(usize, usize)>>;
 
 fn spans(alloc: Global, locations: &CaptureLocations) -> Result<Spans, NoMemory>
-    ensures { IfOk result (λ v. v.items ≡ map (location locations.now) (range_with_len 0 (location_count locations.now))) }
+    ensures { IfOk result
+        (λ v. v.items ≡ map (location locations.now) (range_with_len 0 (location_count locations.now))) }
 {
     let mut spans = Vec::new(alloc);
     for k in 0..locations.len() {
@@ -50,7 +51,8 @@ fn spans(alloc: Global, locations: &CaptureLocations) -> Result<Spans, NoMemory>
 
 /// The spans of the groups of the first match. The matcher lives for this value alone.
 fn groups_in(alloc: Global, regex: &Regex, value: &[u8]) -> Result<Option<Spans>, NoMemory>
-    ensures { IfOk result (λ g. option_map vec_items g ≡ option_map (spans_of (group_count regex.now)) (find (regex_pattern regex.now) value.now 0)) }
+    ensures { IfOk result (λ g. option_map vec_items g
+        ≡ option_map (spans_of (group_count regex.now)) (find (regex_pattern regex.now) value.now 0)) }
 {
     let mut matcher = regex.matcher(alloc)?;
     let mut locations = regex.capture_locations(alloc)?;
@@ -66,7 +68,8 @@ pub(crate) fn texts(
     regex: &Regex,
     value: &[u8],
 ) -> Result<Option<Seq<Option<Bytes>>>, NoMemory>
-    ensures { IfOk result (λ g. g ≡ option_map (texts_in value.now) (option_map (spans_of (group_count regex.now)) (find (regex_pattern regex.now) value.now 0))) }
+    ensures { IfOk result (λ g. g ≡ option_map (texts_in value.now)
+        (option_map (spans_of (group_count regex.now)) (find (regex_pattern regex.now) value.now 0))) }
 {
     match groups_in(alloc, regex, value)? {
         None => Ok(None),

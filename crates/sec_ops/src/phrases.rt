@@ -52,7 +52,8 @@ pub(crate) fn first_end(phrases: &[Bytes], text: &[u8]) -> Option<(usize, usize)
 
 /// The best occurrence so far, with one phrase more.
 fn best_with(best: Option<(usize, usize)>, text: &[u8], phrase: &[u8]) -> Option<(usize, usize)>
-    ensures first { (n : ℕ) (phrases : List (List ℕ)) → IsFirstEnd n phrases text.now best → phrase.now ≡ get_or phrases n [] → IsFirstEnd (n + 1) phrases text.now result }
+    ensures first { (n : ℕ) (phrases : List (List ℕ)) → IsFirstEnd n phrases text.now best
+        → phrase.now ≡ get_or phrases n [] → IsFirstEnd (n + 1) phrases text.now result }
     ensures value { result ≡ better best (span_of text.now phrase.now) }
 {
     match place(text, phrase) {

@@ -44,7 +44,8 @@ impl NamePattern {
     pub fn read(alloc: Global, pattern: &[u8]) -> Result<NamePattern, BuildFault>
         ensures ok { IfOk result (λ read. read ≡ pattern.now) }
         ensures read { IfOk result (λ _. IsSome (source_reading (selector_source pattern.now))) }
-        ensures bad { IfErr result (λ e. e ≡ BuildFault.BadPattern → source_reading (selector_source pattern.now) ≡ None) }
+        ensures bad { IfErr result (λ e. e ≡ BuildFault.BadPattern
+            → source_reading (selector_source pattern.now) ≡ None) }
     {
         let op = operator(alloc, pattern)?;
         let built = build(alloc, &op)?;
