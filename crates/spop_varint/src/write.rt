@@ -1,4 +1,4 @@
-ghost use Rattle.std.specs.Prelude.{◌≡◌, ◌++◌, OnErr, OnOk, length};
+ghost use Rattle.std.specs.Prelude.{◌≡◌, ◌++◌, ◌≤◌, OnErr, OnOk, length};
 ghost use Rattle.spop_varint.specs.Varint.{AppendsVarint, Spells};
 ghost use Rattle.spop_varint.specs.Writing.{spelling};
 
@@ -17,7 +17,8 @@ pub fn write_varint(value: u64, out: &mut Bytes) -> Result<(), NoMemory>
 
 /// How many bytes spell a number, 1 to 10. It takes no memory.
 pub fn varint_length(value: u64) -> u64
-    ensures { result ≡ length (spelling value) }
+    ensures exact { result ≡ length (spelling value) }
+    ensures few { result ≤ 10 }
 {
     spell(value).len() as u64
 }
