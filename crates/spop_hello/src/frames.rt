@@ -38,7 +38,12 @@ fn hello_payload(alloc: Global, terms: &Terms) -> Result<Bytes, NoMemory>
     let mut payload = Bytes::new(alloc);
     put_text(alloc, b"version", b"2.0", &mut payload)?;
     put_number(alloc, b"max-frame-size", terms.size, &mut payload)?;
-    put_text(alloc, b"capabilities", capability(terms.pipelining), &mut payload)?;
+    put_text(
+        alloc,
+        b"capabilities",
+        capability(terms.pipelining),
+        &mut payload,
+    )?;
     Ok(payload)
 }
 

@@ -65,12 +65,7 @@ pub fn write_ack(
 }
 
 // The frame that answers.
-fn frame_of(
-    alloc: Global,
-    stream: u64,
-    frame: u64,
-    actions: &[Action],
-) -> Result<Frame, NoMemory>
+fn frame_of(alloc: Global, stream: u64, frame: u64, actions: &[Action]) -> Result<Frame, NoMemory>
     ensures { IfOk result (λ f. f ≡ ack_frame stream frame actions.now) }
 {
     let mut payload = Bytes::new(alloc);
