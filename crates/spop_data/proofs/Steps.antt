@@ -3,7 +3,7 @@ use Rattle.std.proofs.Common.{◌≡◌, ℕ, ◌+◌, ◌-◌, ◌≤◌, Bool,
 use Rattle.std.proofs.lemmas.List.{take_at, drop_at, get_or-drop}
 use Rattle.spop_varint.specs.Reading.{◌>>=◌}
 use Rattle.spop_varint.proofs.Laws.{IsBytes}
-use Rattle.spop_data.specs.Answer.{Refuses, IsFront, IsInvalid}
+use Rattle.spop_data.specs.Answer.{Refuses, IsPrefix, IsInvalid}
 use Rattle.spop_data.specs.declared.value.DataFault as faults
 use Rattle.spop_data.specs.declared.value.DataFault.TheVariants as fault
 
@@ -68,7 +68,7 @@ module _ {A : Type 0} (one : List ℕ → Option (A × List ℕ)) (R : List ℕ 
     front_is : take (length bytes - length rest) bytes ≡ f.0
     front_is = (λ i. take (used i) (f.2 i)) ∙ take_at f.0 rest (length f.0) refl
 
-    pub front : IsFront R bytes x (length bytes - length rest)
+    pub front : IsPrefix R bytes x (length bytes - length rest)
     front = record { within = omega arith; spelled = subst (λ (l : List ℕ). R l x) (sym front_is) f.1 }
 
     pub left : one bytes ≡ Some (x, drop (length bytes - length rest) bytes)

@@ -30,7 +30,7 @@ pub record IsCounted (bytes text : List ℕ) : Type 0 where
 abbrev pub IsText : List ℕ → List ℕ → List ℕ → Type 0
 IsText bytes text rest = (front : List ℕ) × IsCounted front text × (bytes ≡ front ++ rest)
 
--- What stands behind the first byte `kind`. A signed number is its 64-bit word in two's complement.
+-- What follows the first byte `kind`. A signed number is its 64-bit word in two's complement.
 -- A BOOLEAN is a flag of that byte.
 abbrev pub SpellsValue : ℕ → List ℕ → values.Data → Type 0
 SpellsValue kind bytes types.Null = bytes ≡ []

@@ -5,9 +5,10 @@ use Rattle.spop_varint.specs.Reading.{◌>>=◌}
 -- the items' spellings one after the other, and nothing else
 abbrev pub SpellsEach : {A : Type 0} → (List ℕ → A → Type 0) → List ℕ → List A → Type 0
 SpellsEach R bytes [] = bytes ≡ []
-SpellsEach R bytes (x ∷ xs) = (one : List ℕ) × (rest : List ℕ) × R one x × SpellsEach R rest xs × (bytes ≡ one ++ rest)
+SpellsEach R bytes (x ∷ xs) =
+    (one : List ℕ) × (rest : List ℕ) × R one x × SpellsEach R rest xs × (bytes ≡ one ++ rest)
 
--- so many items and the bytes behind them, where `one` reads an item and the bytes behind it
+-- so many items and the bytes after them, where `one` reads an item and the bytes after it
 abbrev pub several_at : {A : Type 0} → (List ℕ → Option (A × List ℕ)) → ℕ → List ℕ → Option (List A × List ℕ)
 several_at one zero bytes = Some ([], bytes)
 several_at one (suc count) bytes = do

@@ -1,4 +1,4 @@
--- What stands at the front of some bytes and what is left behind it, as functions.
+-- What some bytes begin with and the bytes after it, as functions.
 use Rattle.std.specs.Prelude.{ℕ, ◌^◌, ◌%◌, List, [], ◌∷◌, length, take, drop, ℤ, pos, negsuc, Bool, not, nat_lt, nat_le, nat_eq, if◌then◌else◌, Option, Some, None, bit_and}
 use Rattle.std.specs.Int.{cast_signed, w64}
 use Rattle.spop_varint.specs.Reading.{split_number, ◌>>=◌}

@@ -10,7 +10,7 @@ use Rattle.spop_data.specs.declared.value.Pair.{Pair}
 unfoldable pub number_bytes : ℕ → List ℕ
 number_bytes n = spelling n
 
--- a text behind its length
+-- a text after its length
 abbrev pub counted : List ℕ → List ℕ
 counted text = number_bytes (length text) ++ text
 

@@ -1,19 +1,20 @@
 ghost use Rattle.std.specs.Prelude.{◌≡◌, ◌≤◌, ℕ, List, length, take, drop, IfNone, IfOk, IfSome, OnOk, IsErrOf, Some, None};
 ghost use Rattle.std.specs.Option.{option_map};
-ghost use Rattle.spop_data.specs.Answer.{Gives, IsFront, IsInvalid};
+ghost use Rattle.spop_data.specs.Answer.{Gives, IsPrefix, IsInvalid};
 ghost use Rattle.spop_data.specs.Data.{IsCounted, IsText, SpellsData, SpellsPair, SpellsPairs};
-ghost use Rattle.spop_data.specs.Reading.{varint_at, cut_at, counted_at, int32_at, uint32_at, int64_at, uint64_at, ipv4_at, ipv6_at, text_at, binary_at, value_at, data_at, pair_at, pairs_at};
+ghost use Rattle.spop_data.specs.Reading.{varint_at, cut_at, counted_at, int32_at, uint32_at, int64_at, uint64_at};
+ghost use Rattle.spop_data.specs.Reading.{ipv4_at, ipv6_at, text_at, binary_at, value_at, data_at, pair_at, pairs_at};
 
 use crate::{Data, DataFault, Pair};
 use spop_varint::{Varint, read_varint};
 use std::alloc::Global;
 use waf_plain::{Bytes, Seq};
 
-/// Reads the value at the front, and how many bytes it has. Others may follow. Flag bits without a
+/// Reads the value that the bytes begin with, and how many it has. Others may follow. Flag bits without a
 /// meaning are passed over, and a type of 10 to 15 is `Invalid`, as is a 32-bit number that does not
 /// fit its type (SPOE.txt, 3.1).
 pub fn read_data(alloc: Global, input: &[u8]) -> Result<(Data, u64), DataFault>
-    ensures read { IfOk result (λ x. IsFront SpellsData input.now x.0 x.1) }
+    ensures read { IfOk result (λ x. IsPrefix SpellsData input.now x.0 x.1) }
     ensures invalid { IsErrOf result DataFault.Invalid → IsInvalid SpellsData input.now }
     ensures never { IsInvalid SpellsData input.now → OnOk result ⊥ }
     ensures exact { Gives (λ x. (x.0, drop x.1 input.now)) result (data_at input.now) }
@@ -22,9 +23,9 @@ pub fn read_data(alloc: Global, input: &[u8]) -> Result<(Data, u64), DataFault>
     Ok((value, (input.len() - rest.len()) as u64))
 }
 
-/// Reads the name and the value at the front, and how many bytes they have. Others may follow.
+/// Reads the name and the value that the bytes begin with, and how many they have. Others may follow.
 pub fn read_pair(alloc: Global, input: &[u8]) -> Result<(Pair, u64), DataFault>
-    ensures read { IfOk result (λ x. IsFront SpellsPair input.now x.0 x.1) }
+    ensures read { IfOk result (λ x. IsPrefix SpellsPair input.now x.0 x.1) }
     ensures invalid { IsErrOf result DataFault.Invalid → IsInvalid SpellsPair input.now }
     ensures never { IsInvalid SpellsPair input.now → OnOk result ⊥ }
     ensures exact { Gives (λ x. (x.0, drop x.1 input.now)) result (pair_at input.now) }
@@ -33,9 +34,9 @@ pub fn read_pair(alloc: Global, input: &[u8]) -> Result<(Pair, u64), DataFault>
     Ok((pair, (input.len() - rest.len()) as u64))
 }
 
-/// Reads so many pairs at the front, and how many bytes they have. Others may follow.
+/// Reads so many pairs that the bytes begin with, and how many they have. Others may follow.
 pub fn read_pairs(alloc: Global, input: &[u8], count: u32) -> Result<(Seq<Pair>, u64), DataFault>
-    ensures read { IfOk result (λ x. IsFront (SpellsPairs count) input.now x.0 x.1) }
+    ensures read { IfOk result (λ x. IsPrefix (SpellsPairs count) input.now x.0 x.1) }
     ensures invalid { IsErrOf result DataFault.Invalid → IsInvalid (SpellsPairs count) input.now }
     ensures never { IsInvalid (SpellsPairs count) input.now → OnOk result ⊥ }
     ensures exact { Gives (λ x. (x.0, drop x.1 input.now)) result (pairs_at count input.now) }
@@ -59,7 +60,7 @@ fn pairs_of(alloc: Global, bytes: &[u8], count: u32) -> Result<(Seq<Pair>, &[u8]
     Ok((pairs, rest))
 }
 
-// The pair at the front, and the rest.
+// The pair that the bytes begin with, and the rest.
 #[tactic(auto, unfolding(crate::specs::Reading::pair_at))]
 fn pair_of(alloc: Global, bytes: &[u8]) -> Result<(Pair, &[u8]), DataFault>
     ensures { Gives (λ x. (x.0, x.1.now)) result (pair_at bytes.now) }
@@ -72,7 +73,7 @@ fn pair_of(alloc: Global, bytes: &[u8]) -> Result<(Pair, &[u8]), DataFault>
     Ok((Pair { name, value }, rest))
 }
 
-// The value at the front, and the rest.
+// The value that the bytes begin with, and the rest.
 fn data_of(alloc: Global, bytes: &[u8]) -> Result<(Data, &[u8]), DataFault>
     ensures { Gives (λ x. (x.0, x.1.now)) result (data_at bytes.now) }
 {
@@ -82,7 +83,7 @@ fn data_of(alloc: Global, bytes: &[u8]) -> Result<(Data, &[u8]), DataFault>
     }
 }
 
-// The value behind the byte that has its type and its flags.
+// The value after the byte that has its type and its flags.
 #[tactic(auto, unfolding(crate::specs::Reading::value_at))]
 fn value_of(alloc: Global, kind: u8, bytes: &[u8]) -> Result<(Data, &[u8]), DataFault>
     ensures { Gives (λ x. (x.0, x.1.now)) result (value_at kind bytes.now) }
@@ -190,7 +191,7 @@ fn binary_of(alloc: Global, bytes: &[u8]) -> Result<(Data, &[u8]), DataFault>
     Ok((Data::Binary(text), rest))
 }
 
-/// A text behind its length at the front, and the bytes after it, if the text is there whole. It
+/// A text after its length, with which the bytes begin, and the bytes after it, if the text is there whole. It
 /// takes no memory. Names of messages and of pairs stand so.
 pub fn read_text(input: &[u8]) -> Option<(&[u8], &[u8])>
     ensures read { IfSome result (λ x. IsText input.now x.0.now x.1.now) }

@@ -25,7 +25,7 @@ pub struct Pair {
 /// Why no value was read.
 #[derive(Clone, Copy, Debug, PartialEq, Eq)]
 pub enum DataFault {
-    /// No front of the bytes is such a value.
+    /// No prefix of the bytes is such a value.
     Invalid,
     NoMemory,
 }

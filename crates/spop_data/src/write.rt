@@ -34,7 +34,7 @@ pub fn write_pair(pair: &Pair, out: &mut Bytes) -> Result<(), NoMemory>
     written
 }
 
-/// Appends a text behind its length. After an `Err` the bytes are as before.
+/// Appends a text after its length. After an `Err` the bytes are as before.
 pub fn write_text(text: &[u8], out: &mut Bytes) -> Result<(), NoMemory>
     ensures ok { OnOk result (out.new ≡ out.old ++ counted text.now) }
     ensures spelled { IsCounted (counted text.now) text.now }

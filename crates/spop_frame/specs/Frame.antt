@@ -3,6 +3,7 @@ use Rattle.std.specs.Prelude.{◌≡◌, ◌⊎◌, ℕ, ◌^◌, ◌<◌, ◌�
 use Rattle.std.specs.Int.{to_be_bytes, w32}
 use Rattle.spop_varint.specs.Varint.{Spells}
 use Rattle.spop_frame.specs.declared.frame.Frame.{Frame}
+use Rattle.spop_frame.specs.declared.kind.TheConstants.{UNSET}
 
 -- the bytes after the length: the type, four bytes of flags, two numbers and the payload
 pub record SpellsBody (body : List ℕ) (f : Frame) : Type 0 where
@@ -29,6 +30,6 @@ AppendsFrame old new f = (bytes : List ℕ) × SpellsFrame bytes f × (new ≡ o
 abbrev pub IsTooLong : Frame → Type 0
 IsTooLong f = (body : List ℕ) × SpellsBody body f × (2 ^ 32 ≤ length body)
 
--- a part of a longer frame, or one that was given up: FIN is missing, ABORT is set or the type is UNSET
+-- a part of a longer frame, or one that was given up: FIN (bit 0) is missing, ABORT (bit 1) is set or the type is UNSET
 abbrev pub IsFragment : Frame → Type 0
-IsFragment f = (¬ (IsBitSet f.flags 0)) ⊎ (IsBitSet f.flags 1) ⊎ (f.kind ≡ 0)
+IsFragment f = (¬ (IsBitSet f.flags 0)) ⊎ (IsBitSet f.flags 1) ⊎ (f.kind ≡ UNSET)

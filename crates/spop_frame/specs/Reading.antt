@@ -1,4 +1,4 @@
--- What stands at the front of some bytes, as functions.
+-- What some bytes begin with, as functions.
 use Rattle.std.specs.Prelude.{ℕ, List, [], ◌∷◌, Option, Some, None}
 use Rattle.std.specs.Int.{from_be_bytes, w32}
 use Rattle.spop_varint.specs.Reading.{◌>>=◌, split_number}
@@ -9,7 +9,7 @@ abbrev pub split_word : List ℕ → Option (ℕ × List ℕ)
 split_word (a ∷ b ∷ c ∷ d ∷ rest) = Some (from_be_bytes w32 (a ∷ b ∷ c ∷ d ∷ []), rest)
 split_word fewer = None
 
--- the frame that the bytes behind a length are
+-- the frame that the bytes after a length are
 abbrev pub frame_of : List ℕ → Option Frame
 frame_of [] = None
 frame_of (kind ∷ body) = do

@@ -1,4 +1,4 @@
--- A head together with how many bytes are taken with it.
+-- What a stream begins with, and how many bytes are taken with it.
 use Rattle.std.specs.Prelude.{◌≡◌, ℕ, ◌≤◌, List, drop, length}
 use Rattle.spop_frame.specs.declared.frame.Frame.{Frame}
 use Rattle.spop_frame.specs.declared.framer.Next as next

@@ -1,20 +1,20 @@
 ghost use Rattle.std.specs.Prelude.{◌≡◌, ◌++◌, ◌≤◌, [], drop, length, List, OnErr, OnOk, Some, ℕ};
 
-use crate::header::{Header, header_of, split_word};
-use crate::{Frame, kind};
+use crate::header::{Header, LENGTH_BYTES, header_of, split_word};
+use crate::{Frame, flag, kind, status};
 use std::alloc::Global;
 use std::marker::Model;
 use waf_plain::{Bytes, NoMemory};
 
-/// What stands at the head of the bytes that are held.
+/// What the bytes that are held begin with.
 #[derive(Debug, Drop)]
 pub enum Next {
     /// A whole frame, which was taken off.
     Frame(Frame),
     /// No whole frame is there, and nothing is wrong with what is.
     NotYet,
-    /// No frame that is taken can come of it; the status of the DISCONNECT that says so: 3, a length
-    /// above the limit; 4, no frame's spelling; 10, a fragment.
+    /// No frame that is taken can come of it; the status of the DISCONNECT that says so: `TOO_BIG`, a
+    /// length above the limit; `INVALID`, no frame's spelling; `FRAGMENT`.
     Bad(u32),
     /// A whole frame is there, and stays.
     NoMemory,
@@ -95,7 +95,7 @@ impl Framer {
     }
 }
 
-// What stands at the head, and how many bytes are taken with it.
+// What the bytes begin with, and how many are taken with it.
 fn head(alloc: Global, limit: u32, bytes: &[u8]) -> (Next, usize)
     ensures { TakesHead bytes.now result.0 result.1 (head_of limit bytes.now) }
 {
@@ -103,15 +103,15 @@ fn head(alloc: Global, limit: u32, bytes: &[u8]) -> (Next, usize)
         return (Next::NotYet, 0);
     };
     if length > limit {
-        return (Next::Bad(3), 0);
+        return (Next::Bad(status::TOO_BIG), 0);
     }
     let length = length as usize;
     if rest.len() < length {
         return (Next::NotYet, 0);
     }
     match header_of(rest.split_at(length).0) {
-        None => (Next::Bad(4), 0),
-        Some(header) => whole(alloc, &header, 4 + length),
+        None => (Next::Bad(status::INVALID), 0),
+        Some(header) => whole(alloc, &header, LENGTH_BYTES + length),
     }
 }
 
@@ -121,7 +121,7 @@ fn whole(alloc: Global, header: &Header<'_>, size: usize) -> (Next, usize)
         → TakesHead bytes result.0 result.1 (whole (Some (frame_seen header.now)) (drop size bytes)) }
 {
     if is_fragment(header) {
-        return (Next::Bad(10), 0);
+        return (Next::Bad(status::FRAGMENT), 0);
     }
     match Bytes::copy(alloc, header.payload) {
         Err(NoMemory) => (Next::NoMemory, 0),
@@ -133,5 +133,5 @@ fn whole(alloc: Global, header: &Header<'_>, size: usize) -> (Next, usize)
 fn is_fragment(header: &Header<'_>) -> bool
     ensures { result ≡ is_fragment (frame_seen header.now) }
 {
-    header.flags & 1 == 0 || header.flags & 2 != 0 || header.kind == kind::UNSET
+    header.flags & flag::FIN == 0 || header.flags & flag::ABORT != 0 || header.kind == kind::UNSET
 }

@@ -7,6 +7,9 @@ use crate::Frame;
 use spop_varint::split_varint;
 use waf_plain::Bytes;
 
+/// How many bytes the length of a frame has.
+pub const LENGTH_BYTES: usize = 4;
+
 // A frame whose payload still lies in the bytes that it was read from.
 #[derive(Clone, Copy)]
 pub struct Header<'a> {
@@ -33,7 +36,7 @@ impl Header<'_> {
     }
 }
 
-// The frame that the bytes behind a length are.
+// The frame that the bytes after a length are.
 #[tactic(auto, unfolding(crate::specs::Reading::frame_of))]
 pub fn header_of(body: &[u8]) -> Option<Header<'_>>
     ensures { option_map frame_seen result ≡ frame_of body.now }

@@ -1,11 +1,19 @@
 //! Frames of SPOP, written, and read from a stream that comes in any pieces (SPOE.txt, 3.2).
+//!
+//! `framer.feed(bytes)` adds what a connection gave, and `framer.next(alloc)` takes the first frame off
+//! as `Next::Frame(frame)`, once it is whole. `write_frame(alloc, &frame, &mut out)` appends one.
+//!
+//! `SpellsFrame bytes frame` in `specs/Frame.antt` says which bytes spell a frame, and
+//! `head_of limit bytes` in `specs/Head.antt` what a stream begins with.
 #![tactic(auto)]
 
+pub mod flag;
 mod frame;
 mod framer;
 mod header;
 pub mod kind;
 mod law;
+pub mod status;
 mod write;
 
 pub use frame::Frame;

@@ -61,10 +61,10 @@ fn header_of(alloc: Global, frame: &Frame) -> Result<Bytes, NoMemory>
     Ok(header)
 }
 
-// Appends a length in network order and two pieces; after an `Err` maybe a front of them.
+// Appends a length in network order and two pieces; after an `Err` maybe a prefix of them.
 fn append_all(length: u32, header: &[u8], payload: &[u8], out: &mut Bytes) -> Result<(), NoMemory>
     ensures ok { OnOk result (out.new ≡ out.old ++ (to_be_bytes w32 length ++ (header.now ++ payload.now))) }
-    ensures err { OnErr result ((front : List ℕ) × (out.new ≡ out.old ++ front)) }
+    ensures err { OnErr result ((prefix : List ℕ) × (out.new ≡ out.old ++ prefix)) }
 {
     out.append(&length.to_be_bytes())?;
     out.append(header)?;

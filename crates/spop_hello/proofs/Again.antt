@@ -16,7 +16,7 @@ use Rattle.spop_frame.specs.Writing.{body_bytes}
 use Rattle.spop_frame.proofs.Heads.{frame_again}
 use Rattle.spop_hello.specs.Frames.{agent_hello, control, control_bytes, disconnect, disconnect_pairs, disconnect_payload, hello_pairs, hello_payload}
 use Rattle.spop_hello.specs.declared.terms.Terms.{Terms}
-use Rattle.spop_hello.proofs.Offers.{some}
+use Rattle.spop_hello.proofs.Pairs.{some}
 use Rattle.spop_hello.proofs.Sizes.{hello_short, disconnect_short, capability_short, message_short}
 
 module _ (kind : ℕ) (payload : List ℕ) (byte : kind < 256) (short : length payload ≤ 200) where

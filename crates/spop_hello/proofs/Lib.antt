@@ -1,4 +1,4 @@
-pub mod Offers
+pub mod Pairs
 pub mod Blanks
 pub mod Statuses
 pub mod Sizes

@@ -1,4 +1,4 @@
 pub mod Items
-pub mod Offer
+pub mod Client
 pub mod Terms
 pub mod Frames

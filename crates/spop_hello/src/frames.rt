@@ -1,15 +1,16 @@
-ghost use Rattle.std.specs.Prelude.{◌≡◌, ◌++◌, ◌≤◌, ◌<◌, ◌^◌, [], IfOk, OnErr, OnOk, Some, codes, if◌then◌else◌, length};
+ghost use Rattle.std.specs.Prelude.{◌≡◌, ◌++◌, ◌<◌, ◌^◌, [], IfOk, OnErr, OnOk, Some, codes, if◌then◌else◌};
 ghost use Rattle.spop_data.specs.Writing.{pair_bytes};
-ghost use Rattle.spop_hello.specs.Frames.{agent_hello, control_bytes, disconnect, disconnect_payload, hello_payload, message_of, number_pair, text_pair, IsStatus};
+ghost use Rattle.spop_hello.specs.Frames.{agent_hello, control_bytes, disconnect, disconnect_payload, hello_payload};
+ghost use Rattle.spop_hello.specs.Frames.{message_of, number_pair, text_pair, IsSmall, IsStatus};
 
 use crate::Terms;
-use spop_data::{Data, write_data, write_text};
-use spop_frame::{Frame, WriteFault, kind, write_frame};
+use spop_data::{Data, Pair, write_pair};
+use spop_frame::{Frame, WriteFault, flag, kind, status, write_frame};
 use std::alloc::Global;
 use waf_plain::{Bytes, NoMemory};
 
-/// Appends the AGENT-HELLO for these terms: version 2.0, the size, and `pipelining` where that was
-/// offered. After an `Err` the bytes are as before (SPOE.txt, 3.2.5).
+/// Appends the AGENT-HELLO for these terms: version 2.0, the size, and `pipelining` where the client
+/// has it. After an `Err` the bytes are as before (SPOE.txt, 3.2.5).
 pub fn hello_frame(alloc: Global, terms: &Terms, out: &mut Bytes) -> Result<(), NoMemory>
     ensures ok { OnOk result (out.new ≡ out.old ++ agent_hello terms.now) }
     ensures err { OnErr result (out.new ≡ out.old) }
@@ -35,9 +36,14 @@ fn hello_payload(alloc: Global, terms: &Terms) -> Result<Bytes, NoMemory>
     ensures sized { OnOk result (terms.now.size < 2 ^ 32) }
 {
     let mut payload = Bytes::new(alloc);
-    put_text(b"version", b"2.0", &mut payload)?;
-    put_number(b"max-frame-size", terms.size, &mut payload)?;
-    put_text(b"capabilities", capability(terms.pipelining), &mut payload)?;
+    put_text(alloc, b"version", b"2.0", &mut payload)?;
+    put_number(alloc, b"max-frame-size", terms.size, &mut payload)?;
+    put_text(
+        alloc,
+        b"capabilities",
+        capability(terms.pipelining),
+        &mut payload,
+    )?;
     Ok(payload)
 }
 
@@ -47,8 +53,8 @@ fn disconnect_payload(alloc: Global, status: u32) -> Result<Bytes, NoMemory>
     ensures { IfOk result (λ payload. payload ≡ disconnect_payload status) }
 {
     let mut payload = Bytes::new(alloc);
-    put_number(b"status-code", status, &mut payload)?;
-    put_text(b"message", message(status), &mut payload)?;
+    put_number(alloc, b"status-code", status, &mut payload)?;
+    put_text(alloc, b"message", message(status), &mut payload)?;
     Ok(payload)
 }
 
@@ -63,46 +69,47 @@ fn message(status: u32) -> &'static [u8]
     ensures { message_of status ≡ Some result.now }
 {
     match status {
-        0 => b"normal",
-        3 => b"frame too big",
-        4 => b"invalid frame",
-        5 => b"version not found",
-        6 => b"max-frame-size not found",
-        7 => b"capabilities not found",
-        8 => b"unsupported version",
-        9 => b"bad max-frame-size",
-        10 => b"fragmentation not supported",
-        13 => b"resource allocation error",
+        status::NORMAL => b"normal",
+        status::TOO_BIG => b"frame too big",
+        status::INVALID => b"invalid frame",
+        status::NO_VERSIONS => b"version not found",
+        status::NO_SIZE => b"max-frame-size not found",
+        status::NO_CAPABILITIES => b"capabilities not found",
+        status::BAD_VERSION => b"unsupported version",
+        status::BAD_SIZE => b"bad max-frame-size",
+        status::FRAGMENT => b"fragmentation not supported",
+        status::NO_MEMORY => b"resource allocation error",
         _ => unreachable!(),
     }
 }
 
-fn put_text(name: &[u8], text: &[u8], out: &mut Bytes) -> Result<(), NoMemory>
+fn put_text(alloc: Global, name: &[u8], text: &[u8], out: &mut Bytes) -> Result<(), NoMemory>
     ensures { OnOk result (out.new ≡ out.old ++ pair_bytes (text_pair name.now text.now)) }
 {
-    write_text(name, out)?;
-    out.push(8)?;
-    write_text(text, out)
+    let name = Bytes::copy(alloc, name)?;
+    let value = Data::Text(Bytes::copy(alloc, text)?);
+    write_pair(&Pair { name, value }, out)
 }
 
-fn put_number(name: &[u8], number: u32, out: &mut Bytes) -> Result<(), NoMemory>
+fn put_number(alloc: Global, name: &[u8], number: u32, out: &mut Bytes) -> Result<(), NoMemory>
     ensures ok { OnOk result (out.new ≡ out.old ++ pair_bytes (number_pair name.now number)) }
     ensures fits { number < 2 ^ 32 }
 {
-    write_text(name, out)?;
-    write_data(&Data::Uint32(number), out)
+    let name = Bytes::copy(alloc, name)?;
+    let value = Data::Uint32(number);
+    write_pair(&Pair { name, value }, out)
 }
 
 // Appends a frame with FIN alone that belongs to no stream.
 #[tactic(auto, unfolding(crate::specs::Frames::control_bytes))]
 fn append(alloc: Global, kind: u8, payload: Bytes, out: &mut Bytes) -> Result<(), NoMemory>
-    requires small { length payload ≤ 200 }
+    requires small { IsSmall payload }
     ensures ok { OnOk result (out.new ≡ out.old ++ control_bytes kind payload) }
     ensures err { OnErr result (out.new ≡ out.old) }
 {
     let frame = Frame {
         kind,
-        flags: 1,
+        flags: flag::FIN,
         stream: 0,
         frame: 0,
         payload,

@@ -1,6 +1,7 @@
 ghost use Rattle.std.specs.Prelude.{◌≡◌, length};
 ghost use Rattle.std.specs.List.{list_all};
-ghost use Rattle.spop_hello.specs.Items.{has_item, is_digit, is_pipelining, is_version, without_blanks, without_end, without_start};
+ghost use Rattle.spop_hello.specs.Items.{has_item, is_digit, is_pipelining, is_version};
+ghost use Rattle.spop_hello.specs.Items.{without_blanks, without_end, without_start};
 
 // Whether a version of this protocol is among the items: 2, a point and digits.
 pub fn has_version(text: &[u8]) -> bool

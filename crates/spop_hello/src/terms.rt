@@ -1,31 +1,38 @@
-ghost use Rattle.std.specs.Prelude.{◌≡◌, ◌≤◌, ℕ, IsErrOf};
+ghost use Rattle.std.specs.Prelude.{◌≡◌, ℕ, IsErrOf};
 
+use crate::client::{is_true_in, pairs_in, size_in, text_in};
 use crate::items::{has_pipelining, has_version};
-use crate::offer::{is_true_in, pairs_in, size_in, text_in};
 use spop_data::{DataFault, Pair};
+use spop_frame::status;
 use std::alloc::Global;
+
+/// The least size that a client's HELLO may give.
+pub const MIN_SIZE: u64 = 256;
+
+/// The greatest size that a client's HELLO may give.
+pub const MAX_SIZE: u64 = 4294967295;
 
 /// What both sides agreed on.
 #[derive(Clone, Copy, Debug, PartialEq, Eq)]
 pub struct Terms {
-    /// The longest frame, in bytes behind its length.
+    /// The greatest length of a frame, in bytes.
     pub size: u32,
-    /// HAProxy offered to send requests without waiting for answers.
+    /// HAProxy sends requests without waiting for answers.
     pub pipelining: bool,
-    /// The connection is a health check, and ends with the agent's HELLO.
+    /// The connection is a health check, which ends with the agent's HELLO.
     pub check: bool,
 }
 
 /// Why there are no terms.
 #[derive(Clone, Copy, Debug, PartialEq, Eq)]
 pub enum Refuse {
-    /// The status of the DISCONNECT, 4 to 9.
+    /// The status of the DISCONNECT, `INVALID` to `BAD_SIZE`.
     Status(u32),
     NoMemory,
 }
 
 ghost use Rattle.std.specs.Option.{option_copied};
-ghost use Rattle.spop_hello.specs.Terms.{Settles, agreed, offered, sized, terms_of};
+ghost use Rattle.spop_hello.specs.Terms.{IsRefusal, Settles, agreed, decided, sized, terms_of};
 
 /// Reads the payload of a HAPROXY-HELLO. The first of these that holds is refused: it is no list of
 /// pairs up to its end (4); `supported-versions` is absent (5), or `max-frame-size` (6), or
@@ -34,11 +41,10 @@ ghost use Rattle.spop_hello.specs.Terms.{Settles, agreed, offered, sized, terms_
 #[tactic(auto, unfolding(crate::specs::Terms::terms_of))]
 pub fn negotiate(alloc: Global, payload: &[u8], own_size: u32) -> Result<Terms, Refuse>
     ensures exact { Settles result (terms_of own_size payload.now) }
-    ensures refused { (status : ℕ) → IsErrOf result (Refuse.Status status)
-        → (4 ≤ status) × (status ≤ 9) }
+    ensures refused { (status : ℕ) → IsErrOf result (Refuse.Status status) → IsRefusal status }
 {
     match pairs_in(alloc, payload) {
-        Err(DataFault::Invalid) => Err(Refuse::Status(4)),
+        Err(DataFault::Invalid) => Err(Refuse::Status(status::INVALID)),
         Err(DataFault::NoMemory) => Err(Refuse::NoMemory),
         Ok(pairs) => agree(pairs.as_slice(), own_size),
     }
@@ -57,7 +63,7 @@ fn agree(pairs: &[Pair], own_size: u32) -> Result<Terms, Refuse>
     }
 }
 
-// The terms of an offer, or the status of its first fault.
+// The terms for what the client says, or the status of its first fault.
 fn settle(
     own_size: u32,
     versions: Option<&[u8]>,
@@ -66,19 +72,19 @@ fn settle(
     check: bool,
 ) -> Result<Terms, u32>
     ensures { result
-        ≡ offered own_size (option_copied versions.entry) size (option_copied capabilities.entry) check }
+        ≡ decided own_size (option_copied versions.entry) size (option_copied capabilities.entry) check }
 {
     let Some(versions) = versions else {
-        return Err(5);
+        return Err(status::NO_VERSIONS);
     };
     let Some(size) = size else {
-        return Err(6);
+        return Err(status::NO_SIZE);
     };
     let Some(capabilities) = capabilities else {
-        return Err(7);
+        return Err(status::NO_CAPABILITIES);
     };
     if !has_version(versions) {
-        return Err(8);
+        return Err(status::BAD_VERSION);
     }
     sized(own_size, size, has_pipelining(capabilities), check)
 }
@@ -86,8 +92,8 @@ fn settle(
 fn sized(own_size: u32, size: u64, pipelining: bool, check: bool) -> Result<Terms, u32>
     ensures { result ≡ sized own_size size pipelining check }
 {
-    if size < 256 || size > 4294967295 {
-        return Err(9);
+    if size < MIN_SIZE || size > MAX_SIZE {
+        return Err(status::BAD_SIZE);
     }
     Ok(Terms {
         size: own_size.min(size as u32),

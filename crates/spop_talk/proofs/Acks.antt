@@ -1,13 +1,19 @@
 -- The bytes of an ACK spell its frame.
-use Rattle.std.proofs.Common.{◌≡◌, inl, inr, ℕ, ◌+◌, ◌<◌, ◌≤◌, ◌^◌, List, ◌++◌, length, refl, arith, rules, length-append}
-use Rattle.spop_data.specs.Writing.{number_bytes}
-use Rattle.spop_data.proofs.Written.{number}
+use Rattle.std.proofs.Common.{◌≡◌, inl, inr, ℕ, ◌+◌, ◌<◌, ◌≤◌, ◌^◌, List, ◌++◌, length, refl, ap, arith, rules, length-append}
+use Rattle.spop_varint.specs.Writing.{spelling}
+use Rattle.spop_varint.proofs.Spelling.{spelled}
 use Rattle.spop_frame.specs.Frame.{SpellsBody, SpellsFrame, IsFragment, framed}
 use Rattle.spop_frame.specs.Head.{head_of, Whole}
+use Rattle.spop_frame.specs.Writing.{body_bytes}
+use Rattle.spop_frame.specs.declared.frame.Frame.{Frame}
 use Rattle.std.specs.Int.{to_be_bytes, w32}
 use Rattle.spop_frame.proofs.Heads.{frame_again}
 use Rattle.spop_talk.specs.Ack.{ack, ack_body, ack_frame}
 use Rattle.spop_talk.specs.declared.ack.Action.{Action}
+
+pub body_length : (stream frame : ℕ) (actions : List Action) (f : Frame) → f ≡ ack_frame stream frame actions → length (body_bytes f) ≡ length (ack_body stream frame actions)
+unfolding ack_body
+body_length stream frame actions f is = ap (λ (g : Frame). length (body_bytes g)) is
 
 module _ (stream frame : ℕ) (actions : List Action) (stream_fits : stream < 2 ^ 64) (frame_fits : frame < 2 ^ 64) where
   pub body_spelled : SpellsBody (ack_body stream frame actions) (ack_frame stream frame actions)
@@ -15,10 +21,10 @@ module _ (stream frame : ℕ) (actions : List Action) (stream_fits : stream < 2 
   body_spelled = record {
     kind = omega arith;
     flags = omega arith;
-    stream = number_bytes stream;
-    frame = number_bytes frame;
-    stream_is = number stream stream_fits;
-    frame_is = number frame frame_fits;
+    stream = spelling stream;
+    frame = spelling frame;
+    stream_is = spelled stream stream_fits;
+    frame_is = spelled frame frame_fits;
     is = refl;
   }
 

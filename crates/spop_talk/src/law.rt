@@ -14,8 +14,8 @@ pub fn messages_are_read()
         → messages_of payload ≡ Some ms }
 {}
 
-/// A law, with nothing to run: an ACK whose length is within the limit of the reader is read as the
-/// frame that it spells, whatever follows it.
+/// A law, with nothing to run: an ACK whose length is within the limit of the reader is read as its
+/// frame, whatever follows it.
 pub fn ack_again()
     ensures { (limit stream frame : ℕ) (actions : List Action) (rest : List ℕ)
         → stream < 2 ^ 64 → frame < 2 ^ 64 → limit < 2 ^ 32 → length (ack_body stream frame actions) ≤ limit

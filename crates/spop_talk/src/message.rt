@@ -18,7 +18,7 @@ ghost use Rattle.spop_talk.specs.Message.{IsNoList, SpellsMessage};
 ghost use Rattle.spop_talk.specs.Reading.{args_at, message_at, messages_of};
 
 /// Reads the messages that a payload is, one after the other up to its end. `Invalid` comes where it
-/// is not that, or where anything is left behind the last (SPOE.txt, 3.2.6).
+/// is not that, or where anything follows the last (SPOE.txt, 3.2.6).
 pub fn read_messages(alloc: Global, payload: &[u8]) -> Result<Seq<Message>, DataFault>
     ensures read { IfOk result (SpellsEach SpellsMessage payload.now) }
     ensures invalid { IsErrOf result DataFault.Invalid → IsNoList payload.now }
@@ -42,7 +42,7 @@ fn messages_in(alloc: Global, payload: &[u8]) -> Result<Seq<Message>, DataFault>
     Ok(messages)
 }
 
-// The message at the front, and the rest.
+// The message that the bytes begin with, and the rest.
 #[tactic(auto, unfolding(crate::specs::Reading::message_at))]
 fn message_of(alloc: Global, bytes: &[u8]) -> Result<(Message, &[u8]), DataFault>
     ensures { Gives (λ x. (x.0, x.1.now)) result (message_at bytes.now) }

@@ -102,7 +102,7 @@ number_from_tail a bs (Read v n) low high f =
     let n_is : n ≡ suc f.0 = omega (arith, f.1) in
     (omega (arith, n_is, f.2), subst (λ (m : ℕ). Spells (take m (a ∷ bs)) v) (sym n_is) (first_and_tail a (take f.0 bs) v low high f.3.0 f.3.1 f.3.2))
 number_from_tail a bs Short low high f = (0 ∷ [], f.0, omega arith, first_and_tail a (bs ++ 0 ∷ []) f.0 low high f.1.0 f.1.1 f.1.2)
-number_from_tail a bs TooLarge low high f = record { front = front; onward = λ more v s. f.1 more v (spells_tail a (bs ++ more) v low s) }
+number_from_tail a bs TooLarge low high f = record { prefix = front; onward = λ more v s. f.1 more v (spells_tail a (bs ++ more) v low s) }
   where
     front : (n v : ℕ) → Spells (take n (a ∷ bs)) v → ⊥
     front zero v s = s
@@ -138,7 +138,7 @@ pub only_short : (bytes : List ℕ) → IsBytes bytes → IsShort bytes → numb
 only_short bytes all s = short_is bytes _ (number_answers bytes all) s
 
 large_is : (bytes : List ℕ) (answer : answers.Varint) → Answers bytes answer → IsTooLarge bytes → answer ≡ TooLarge
-large_is bytes (Read v n) f large = absurd (large.front n v f.1)
+large_is bytes (Read v n) f large = absurd (large.prefix n v f.1)
 large_is bytes Short f large = absurd (large.onward f.0 f.1 f.3)
 large_is bytes TooLarge f large = refl
 

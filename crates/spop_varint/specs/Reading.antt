@@ -1,4 +1,4 @@
--- What stands at the front of some bytes, as functions: readers above cite them.
+-- What some bytes begin with, as functions: readers above cite them.
 use Rattle.std.specs.Prelude.{ℕ, ◌+◌, ◌*◌, ◌^◌, List, [], ◌∷◌, drop, Option, Some, None, nat_lt, cond}
 use Rattle.spop_varint.specs.declared.read.Varint as answers
 use Rattle.spop_varint.specs.declared.read.Varint.TheVariants.{Read, Short, TooLarge}
@@ -9,7 +9,7 @@ abbrev pub ◌>>=◌ : {A B : Type 0} → Option A → (A → Option B) → Opti
 (Some found) >>= next = next found
 None >>= next = None
 
--- the number behind `used` bytes that make `sum`, the first byte times 2 ^ e
+-- the number after `used` bytes that make `sum`, the next byte times 2 ^ e
 abbrev pub tail_at : ℕ → ℕ → ℕ → List ℕ → answers.Varint
 tail_at used e sum [] = Short
 tail_at used e sum (b ∷ bs) =
@@ -26,6 +26,6 @@ split_by (Read v used) bytes = Some (v, drop used bytes)
 split_by Short bytes = None
 split_by TooLarge bytes = None
 
--- the number at the front, and the bytes after it
+-- the number that the bytes begin with, and those after it
 abbrev pub split_number : List ℕ → Option (ℕ × List ℕ)
 split_number bytes = split_by (number_at bytes) bytes

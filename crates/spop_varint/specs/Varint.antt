@@ -20,16 +20,16 @@ Spells [] v = ⊥
 Spells (a ∷ []) v = (a < 240) × (v ≡ a)
 Spells (a ∷ b ∷ bs) v = (240 ≤ a) × (a < 256) × IsTail (b ∷ bs) × (v ≡ a + weighed 4 (b ∷ bs)) × (v < 2 ^ 64)
 
--- a front of some spelling, and not all of it
+-- a proper prefix of some spelling
 abbrev pub IsShort : List ℕ → Type 0
 IsShort bytes = (more : List ℕ) × (v : ℕ) × (0 < length more) × Spells (bytes ++ more) v
 
--- neither a front of the bytes nor anything that goes on from them is a spelling
+-- no prefix of the bytes is a spelling, and they are no prefix of one
 pub record IsTooLarge (bytes : List ℕ) : Type 0 where
-  pub front : (n v : ℕ) → Spells (take n bytes) v → ⊥
+  pub prefix : (n v : ℕ) → Spells (take n bytes) v → ⊥
   pub onward : (more : List ℕ) (v : ℕ) → Spells (bytes ++ more) v → ⊥
 
--- the front that was read spells the value
+-- the prefix that was read spells the value
 abbrev pub IsRead : List ℕ → answers.Varint → Type 0
 IsRead bytes (Read v used) = (used ≤ length bytes) × Spells (take used bytes) v
 IsRead bytes Short = Unit {0}

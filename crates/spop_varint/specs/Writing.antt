@@ -1,7 +1,7 @@
 -- The one spelling of a number, as a function.
 use Rattle.std.specs.Prelude.{ℕ, zero, suc, ◌+◌, ◌-◌, ◌/◌, ◌%◌, List, [], ◌∷◌, nat_lt, cond}
 
--- what stands behind the first byte, in at most so many bytes
+-- what follows the first byte, in at most so many bytes
 abbrev pub tail_of : ℕ → ℕ → List ℕ
 tail_of zero rest = []
 tail_of (suc most) rest = cond (nat_lt rest 128) (rest ∷ []) ((rest % 128 + 128) ∷ tail_of most ((rest - 128) / 128))

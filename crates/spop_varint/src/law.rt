@@ -13,10 +13,10 @@ pub fn one_spelling()
     ensures short { (a : List ℕ) (n : ℕ) → Spells a n → length a ≤ 10 }
 {}
 
-/// A law, with nothing to run: the number at the front, as a function on lists, is what its spelling
-/// says, whatever follows it.
+/// A law, with nothing to run: the number that bytes begin with, as a function on lists, is what its
+/// spelling says, whatever follows it.
 pub fn one_reading()
     ensures again { (bytes rest : List ℕ) (n : ℕ) → Spells bytes n → split_number (bytes ++ rest) ≡ Some (n, rest) }
     ensures spelled { (bytes rest : List ℕ) (n : ℕ) → All (λ b. b < 256) bytes → split_number bytes ≡ Some (n, rest)
-        → (front : List ℕ) × Spells front n × (bytes ≡ front ++ rest) }
+        → (prefix : List ℕ) × Spells prefix n × (bytes ≡ prefix ++ rest) }
 {}

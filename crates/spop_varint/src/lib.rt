@@ -1,4 +1,9 @@
 //! Numbers as SPOP spells them: one to ten bytes, the small ones in one (SPOE.txt, 3.1).
+//!
+//! `write_varint(300, &mut out)` appends `fc 03`, and `read_varint(&[0xfc, 0x03])` answers
+//! `Varint::Read { value: 300, used: 2 }`.
+//!
+//! `Spells bytes value` in `specs/Varint.antt` says which bytes spell a number.
 #![tactic(auto)]
 
 mod law;
@@ -7,4 +12,4 @@ mod write;
 
 pub use law::{one_reading, one_spelling};
 pub use read::{Varint, read_varint, split_varint};
-pub use write::write_varint;
+pub use write::{varint_length, write_varint};

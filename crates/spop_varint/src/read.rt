@@ -1,6 +1,6 @@
 ghost use Rattle.std.specs.Prelude.{◌≡◌, ◌↔◌, ◌++◌, List, ◌+◌, ◌<◌, ◌^◌, ℕ, length};
 
-/// What stands at the front of some bytes.
+/// What some bytes begin with.
 #[derive(Clone, Copy, Debug, PartialEq, Eq)]
 pub enum Varint {
     /// A number, and how many bytes spell it.
@@ -15,7 +15,7 @@ ghost use Rattle.std.specs.Option.{option_map};
 ghost use Rattle.spop_varint.specs.Reading.{number_at, split_number, tail_at};
 ghost use Rattle.spop_varint.specs.Varint.{IsRead, IsShort, IsTooLarge, Spells};
 
-/// Reads the number at the front; bytes may follow it. It takes no memory.
+/// Reads the number that the bytes begin with; others may follow it. It takes no memory.
 pub fn read_varint(input: &[u8]) -> Varint
     ensures read { IsRead input.now result }
     ensures again { (spelling rest : List ℕ) (v : ℕ) → Spells spelling v → input.now ≡ spelling ++ rest
@@ -27,7 +27,7 @@ pub fn read_varint(input: &[u8]) -> Varint
     number(input)
 }
 
-/// The number at the front and the bytes after it; `None` where the bytes don't begin with a whole
+/// The number that the bytes begin with, and those after it; `None` where the bytes don't begin with a whole
 /// spelling. It takes no memory.
 pub fn split_varint(bytes: &[u8]) -> Option<(u64, &[u8])>
     ensures { option_map (λ x. (x.0, x.1.now)) result ≡ split_number bytes.now }

@@ -1,4 +1,4 @@
-ghost use Rattle.std.specs.Prelude.{◌≡◌, ◌++◌, OnErr, OnOk};
+ghost use Rattle.std.specs.Prelude.{◌≡◌, ◌++◌, ◌≤◌, OnErr, OnOk, length};
 ghost use Rattle.spop_varint.specs.Varint.{AppendsVarint, Spells};
 ghost use Rattle.spop_varint.specs.Writing.{spelling};
 
@@ -13,6 +13,14 @@ pub fn write_varint(value: u64, out: &mut Bytes) -> Result<(), NoMemory>
     ensures exact { OnOk result (out.new ≡ out.old ++ spelling value) }
 {
     out.append(spell(value).as_slice())
+}
+
+/// How many bytes spell a number, 1 to 10. It takes no memory.
+pub fn varint_length(value: u64) -> u64
+    ensures exact { result ≡ length (spelling value) }
+    ensures few { result ≤ 10 }
+{
+    spell(value).len() as u64
 }
 
 fn spell(value: u64) -> ArrayVec<u8, 10>

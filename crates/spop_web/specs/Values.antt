@@ -8,6 +8,7 @@ use Rattle.web_parts.specs.declared.address.Address.{Address}
 use Rattle.web_parts.specs.declared.address.Address.TheVariants as addresses
 use Rattle.spop_web.specs.declared.argument.Arg.{Arg}
 use Rattle.spop_web.specs.Names.{name_of}
+use Rattle.spop_web.specs.declared.value.TheConstants.{MAX_NAME, MAX_PORT, MIN_STATUS, MAX_STATUS}
 
 -- NULL counts as absent
 abbrev pub present : values.Data → Option values.Data
@@ -16,7 +17,8 @@ present value = Some value
 
 -- of two arguments of one name the later wins
 abbrev pub given : Arg → List Pair → Option values.Data
-given arg args = option_and_then (λ pair. present pair.value) (find (λ pair. bytes_eq pair.name (name_of arg)) (reverse args))
+given arg args =
+    option_and_then (λ pair. present pair.value) (find (λ pair. bytes_eq pair.name (name_of arg)) (reverse args))
 
 -- STRING or BINARY; absent means empty
 abbrev pub text_in : Option values.Data → Option (List ℕ)
@@ -27,13 +29,15 @@ text_in (Some other) = None
 
 -- a text of so many bytes
 abbrev pub text_within : ℕ → ℕ → Option values.Data → Option (List ℕ)
-text_within least most value = option_and_then (λ text. cond (nat_le least (length text) && nat_le (length text) most) (Some text) None) (text_in value)
+text_within least most value =
+    option_and_then (λ text. cond (nat_le least (length text) && nat_le (length text) most) (Some text) None)
+    (text_in value)
 
 abbrev pub identifier_in : Option values.Data → Option (List ℕ)
-identifier_in value = text_within 1 256 value
+identifier_in value = text_within 1 MAX_NAME value
 
 abbrev pub application_in : Option values.Data → Option (List ℕ)
-application_in value = text_within 0 256 value
+application_in value = text_within 0 MAX_NAME value
 
 abbrev pub filled : List ℕ → Option (List ℕ)
 filled [] = None
@@ -68,8 +72,8 @@ within least most number = option_and_then (λ n. cond (nat_le least n && nat_le
 -- absent means none
 abbrev pub port_in : Option values.Data → Option (Option ℕ)
 port_in None = Some None
-port_in (Some value) = option_map (λ n. Some n) (within 0 65535 (number_of value))
+port_in (Some value) = option_map (λ n. Some n) (within 0 MAX_PORT (number_of value))
 
 abbrev pub status_in : Option values.Data → Option ℕ
 status_in None = None
-status_in (Some value) = within 100 999 (number_of value)
+status_in (Some value) = within MIN_STATUS MAX_STATUS (number_of value)

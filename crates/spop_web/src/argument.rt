@@ -48,7 +48,7 @@ impl Arg {
     }
 }
 
-/// Why the arguments tell no request, or no response.
+/// Why the arguments tell no request or no response.
 #[derive(Debug, PartialEq, Drop)]
 pub enum ArgFault {
     /// The first argument that is bad, and the identifier where that is good.

@@ -34,7 +34,8 @@ impl<'a> Reader<'a> {
 
     pub(crate) fn identifier(&mut self) -> Option<&'a [u8]>
         ensures args { self.new.args ≡ self.old.args }
-        ensures bad { self.new.bad ≡ noted self.old.bad Arg.Id (is_some (identifier_in (given Arg.Id self.old.args.now))) }
+        ensures bad { self.new.bad
+            ≡ noted self.old.bad Arg.Id (is_some (identifier_in (given Arg.Id self.old.args.now))) }
         ensures value { option_map (λ t. t.now) result ≡ identifier_in (given Arg.Id self.old.args.now) }
     {
         let text = value::identifier_in(value::given(self.args, Arg::Id));
@@ -44,7 +45,8 @@ impl<'a> Reader<'a> {
 
     pub(crate) fn application(&mut self) -> &'a [u8]
         ensures args { self.new.args ≡ self.old.args }
-        ensures bad { self.new.bad ≡ noted self.old.bad Arg.App (is_some (application_in (given Arg.App self.old.args.now))) }
+        ensures bad { self.new.bad
+            ≡ noted self.old.bad Arg.App (is_some (application_in (given Arg.App self.old.args.now))) }
         ensures value { result.now ≡ unwrap_or (application_in (given Arg.App self.old.args.now)) [] }
     {
         let text = value::application_in(value::given(self.args, Arg::App));
@@ -54,7 +56,8 @@ impl<'a> Reader<'a> {
 
     pub(crate) fn method(&mut self) -> &'a [u8]
         ensures args { self.new.args ≡ self.old.args }
-        ensures bad { self.new.bad ≡ noted self.old.bad Arg.Method (is_some (method_in (given Arg.Method self.old.args.now))) }
+        ensures bad { self.new.bad
+            ≡ noted self.old.bad Arg.Method (is_some (method_in (given Arg.Method self.old.args.now))) }
         ensures value { result.now ≡ unwrap_or (method_in (given Arg.Method self.old.args.now)) [] }
     {
         let text = value::method_in(value::given(self.args, Arg::Method));
@@ -94,7 +97,8 @@ impl<'a> Reader<'a> {
 
     pub(crate) fn status(&mut self) -> u32
         ensures args { self.new.args ≡ self.old.args }
-        ensures bad { self.new.bad ≡ noted self.old.bad Arg.Status (is_some (status_in (given Arg.Status self.old.args.now))) }
+        ensures bad { self.new.bad
+            ≡ noted self.old.bad Arg.Status (is_some (status_in (given Arg.Status self.old.args.now))) }
         ensures value { result ≡ unwrap_or (status_in (given Arg.Status self.old.args.now)) 0 }
     {
         let status = value::status_in(value::given(self.args, Arg::Status));

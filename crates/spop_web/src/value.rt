@@ -1,10 +1,21 @@
 ghost use Rattle.std.specs.Prelude.{◌≡◌, ◌&&◌, ◌≤◌, [], IsTrue, bytes_eq, find, nat_le, reverse, unwrap_or};
 ghost use Rattle.std.specs.Option.{option_map};
-ghost use Rattle.spop_web.specs.Values.{address_in, application_in, given, identifier_in, method_in, natural, number_of, port_in, status_in, text_in, within};
+ghost use Rattle.spop_web.specs.Values.{address_in, application_in, given, identifier_in, method_in};
+ghost use Rattle.spop_web.specs.Values.{natural, number_of, port_in, status_in, text_in, text_within, within};
 
 use crate::Arg;
 use spop_data::{Data, Pair};
 use web_parts::Address;
+
+// The longest identifier, and the longest name of an application, in bytes.
+const MAX_NAME: u16 = 256;
+
+const MAX_PORT: u16 = 65535;
+
+// The status codes that a response can have.
+const MIN_STATUS: u16 = 100;
+
+const MAX_STATUS: u16 = 999;
 
 // The value of the last argument of that name. NULL counts as absent.
 pub(crate) fn given(args: &[Pair], arg: Arg) -> Option<&Data>
@@ -52,28 +63,28 @@ pub(crate) fn or_empty(text: Option<&[u8]>) -> &[u8]
     text.unwrap_or(b"")
 }
 
-// A text of 1 to 256 bytes.
+// A text that is not empty and of at most 256 bytes.
 pub(crate) fn identifier_in(value: Option<&Data>) -> Option<&[u8]>
     ensures { option_map (λ t. t.now) result ≡ identifier_in (option_map (λ d. d.now) value.entry) }
 {
-    let Some(text) = text_in(value) else {
-        return None;
-    };
-    if is_within(text.len() as u64, 1, 256) {
-        Some(text)
-    } else {
-        None
-    }
+    text_within(value, 1, MAX_NAME)
 }
 
 // A text of at most 256 bytes.
 pub(crate) fn application_in(value: Option<&Data>) -> Option<&[u8]>
     ensures { option_map (λ t. t.now) result ≡ application_in (option_map (λ d. d.now) value.entry) }
 {
+    text_within(value, 0, MAX_NAME)
+}
+
+// A text of so many bytes.
+fn text_within(value: Option<&Data>, least: u16, most: u16) -> Option<&[u8]>
+    ensures { option_map (λ t. t.now) result ≡ text_within least most (option_map (λ d. d.now) value.entry) }
+{
     let Some(text) = text_in(value) else {
         return None;
     };
-    if is_within(text.len() as u64, 0, 256) {
+    if is_within(text.len() as u64, least, most) {
         Some(text)
     } else {
         None
@@ -109,7 +120,7 @@ pub(crate) fn port_in(value: Option<&Data>) -> Option<Option<u16>>
     let Some(value) = value else {
         return Some(None);
     };
-    match within(number_of(value), 0, 65535) {
+    match within(number_of(value), 0, MAX_PORT) {
         None => None,
         Some(port) => Some(Some(port)),
     }
@@ -121,7 +132,7 @@ pub(crate) fn status_in(value: Option<&Data>) -> Option<u16>
 {
     match value {
         None => None,
-        Some(value) => within(number_of(value), 100, 999),
+        Some(value) => within(number_of(value), MIN_STATUS, MAX_STATUS),
     }
 }
 

@@ -7,9 +7,13 @@ use crate::row::row_of;
 use std::alloc::Global;
 use waf_plain::{NoMemory, Seq};
 
+const SEMICOLON: u8 = b';';
+
+const EQUALS: u8 = b'=';
+
 /// A row for each cookie of the header fields named `cookie`, in whatever case, in order. Cookies are
 /// parted by `;`, and blanks around them are dropped; the name of one stands before its first `=`, and
-/// its value behind it (RFC 6265, 4.2.1). One without `=` is a name with the empty value.
+/// its value after it (RFC 6265, 4.2.1). One without `=` is a name with the empty value.
 pub fn cookie_rows(alloc: Global, headers: &Seq<NameValue>) -> Result<Seq<NameValue>, NoMemory>
     ensures { IfOk result (λ rows. rows ≡ cookie_rows headers.now) }
 {
@@ -43,7 +47,7 @@ fn add_cookies(alloc: Global, rows: &mut Seq<NameValue>, value: &[u8]) -> Result
 {
     let mut rest = Some(value);
     while let Some(text) = rest {
-        let (piece, behind) = cut(text, b';');
+        let (piece, behind) = cut(text, SEMICOLON);
         add_cookie(alloc, rows, trimmed(piece))?;
         rest = behind;
     }
@@ -57,6 +61,6 @@ fn add_cookie(alloc: Global, rows: &mut Seq<NameValue>, piece: &[u8]) -> Result<
     if piece.is_empty() {
         return Ok(());
     }
-    let (name, value) = cut(piece, b'=');
+    let (name, value) = cut(piece, EQUALS);
     rows.push(row_of(alloc, name, value.unwrap_or(b""))?)
 }

@@ -8,8 +8,14 @@ use crate::row::row_of;
 use std::alloc::Global;
 use waf_plain::{NoMemory, Seq};
 
+const LF: u8 = b'\n';
+
+const CR: u8 = b'\r';
+
+const COLON: u8 = b':';
+
 /// A row for each header field of a text, in order. A line ends at LF or CR LF; its name stands before
-/// the first colon and its value behind it, both without the blanks around them (RFC 9112, 5). A line
+/// the first colon and its value after it, both without the blanks around them (RFC 9112, 5). A line
 /// without a colon or without a name is passed over, and no other line is refused.
 pub fn header_rows(alloc: Global, lines: &[u8]) -> Result<Seq<NameValue>, NoMemory>
     ensures { IfOk result (λ rows. rows ≡ header_rows lines.now) }
@@ -17,7 +23,7 @@ pub fn header_rows(alloc: Global, lines: &[u8]) -> Result<Seq<NameValue>, NoMemo
     let mut rows = Seq::new(alloc);
     let mut rest = Some(lines);
     while let Some(text) = rest {
-        let (line, behind) = cut(text, b'\n');
+        let (line, behind) = cut(text, LF);
         add_row(alloc, &mut rows, line)?;
         rest = behind;
     }
@@ -38,7 +44,7 @@ fn add_row(alloc: Global, rows: &mut Seq<NameValue>, line: &[u8]) -> Result<(), 
 fn header_of(line: &[u8]) -> Option<(&[u8], &[u8])>
     ensures { option_map (λ row. record { name = row.0.now; value = row.1.now }) result ≡ header_of line.now }
 {
-    let (name, Some(value)) = cut(line, b':') else {
+    let (name, Some(value)) = cut(line, COLON) else {
         return None;
     };
     let name = trimmed(name);
@@ -53,7 +59,7 @@ fn without_return(line: &[u8]) -> &[u8]
     ensures { result.now ≡ without_return line.now }
 {
     match line.split_last() {
-        Some((last, front)) => { if *last == b'\r' { front } else { line } }
+        Some((last, front)) => { if *last == CR { front } else { line } }
         None => line,
     }
 }

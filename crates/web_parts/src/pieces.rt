@@ -1,8 +1,12 @@
 ghost use Rattle.std.specs.Prelude.{◌≡◌, ◌==◌, position};
 ghost use Rattle.std.specs.Option.{option_map};
-ghost use Rattle.web_parts.specs.Pieces.{before, behind, is_blank, trimmed, without_end, without_front};
+ghost use Rattle.web_parts.specs.Pieces.{before, behind, is_blank, trimmed, without_end, without_start};
 
-/// The text before the first such byte, or the whole, and the text behind it, where there is one.
+const SPACE: u8 = b' ';
+
+const TAB: u8 = b'\t';
+
+/// The text before the first such byte, or the whole, and the text after it, where there is one.
 pub fn cut(text: &[u8], mark: u8) -> (&[u8], Option<&[u8]>)
     ensures before { result.0.now ≡ before mark text.now }
     ensures behind { option_map (λ rest. rest.now) result.1 ≡ behind mark text.now }
@@ -23,11 +27,11 @@ fn place_of(text: &[u8], mark: u8) -> Option<usize>
 pub fn trimmed(text: &[u8]) -> &[u8]
     ensures { result.now ≡ trimmed text.now }
 {
-    without_end(without_front(text))
+    without_end(without_start(text))
 }
 
-fn without_front(text: &[u8]) -> &[u8]
-    ensures { result.now ≡ without_front text.now }
+fn without_start(text: &[u8]) -> &[u8]
+    ensures { result.now ≡ without_start text.now }
 {
     let mut rest = text;
     while let Some((first, behind)) = rest.split_first() {
@@ -56,5 +60,5 @@ fn without_end(text: &[u8]) -> &[u8]
 fn is_blank(byte: u8) -> bool
     ensures { result ≡ is_blank byte }
 {
-    byte == b' ' || byte == b'\t'
+    byte == SPACE || byte == TAB
 }

@@ -4,7 +4,7 @@ use waf_plain::Bytes;
 /// A request of HTTP (RFC 9110). A text that was not told is empty.
 #[derive(Clone, Debug, PartialEq, Drop)]
 pub struct Request {
-    /// What names the request and its response, as long as both are handled.
+    /// What names the request and its response, while they are handled.
     pub id: Bytes,
     pub src: Address,
     pub src_port: Option<u16>,
@@ -13,9 +13,9 @@ pub struct Request {
     pub method: Bytes,
     /// The path as it was sent, without the query.
     pub path: Bytes,
-    /// What stands behind the first `?` of the target.
+    /// What follows the first `?` of the target.
     pub query: Bytes,
-    /// The number behind `HTTP/`, as `1.1`.
+    /// The number after `HTTP/`, as `1.1`.
     pub version: Bytes,
     /// A line for each field, as `header_rows` reads them.
     pub headers: Bytes,
@@ -25,7 +25,7 @@ pub struct Request {
 /// A response of HTTP (RFC 9110). A text that was not told is empty.
 #[derive(Clone, Debug, PartialEq, Drop)]
 pub struct Response {
-    /// The number behind `HTTP/`, as `1.1`.
+    /// The number after `HTTP/`, as `1.1`.
     pub version: Bytes,
     /// The status code, of three digits.
     pub status: u32,

@@ -3,7 +3,7 @@ use Rattle.spop_varint.proofs.Laws.{IsBytes}
 use Rattle.spop_data.specs.Lists.{all_of}
 use Rattle.spop_data.specs.Reading.{pair_at}
 use Rattle.spop_data.proofs.Items.{after}
-use Rattle.spop_hello.proofs.offer.pairs_in.Given as goal
+use Rattle.spop_hello.proofs.client.pairs_in.Given as goal
 
 -- the pairs that are held, and those that are left, are all
 abbrev pub invariant-loop-rest : goal.invariant-loop-rest

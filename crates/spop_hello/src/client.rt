@@ -3,7 +3,7 @@ ghost use Rattle.std.specs.Option.{option_copied};
 ghost use Rattle.spop_data.specs.Answer.{Gives};
 ghost use Rattle.spop_data.specs.Lists.{all_of};
 ghost use Rattle.spop_data.specs.Reading.{pair_at};
-ghost use Rattle.spop_hello.specs.Offer.{is_true, size_of, text_of, value_of};
+ghost use Rattle.spop_hello.specs.Client.{is_true, size_of, text_of, value_of};
 
 use spop_data::{Data, DataFault, Pair, read_pair};
 use std::alloc::Global;
@@ -23,7 +23,7 @@ pub fn pairs_in(alloc: Global, payload: &[u8]) -> Result<Seq<Pair>, DataFault>
     Ok(pairs)
 }
 
-// The pair at the front, and the rest.
+// The pair that the bytes begin with, and the rest.
 fn pair_of(alloc: Global, bytes: &[u8]) -> Result<(Pair, &[u8]), DataFault>
     ensures { Gives (λ x. (x.0, x.1.now)) result (pair_at bytes.now) }
 {

@@ -2,11 +2,11 @@ use Rattle.std.proofs.Common.{◌≡◌, ◌+◌, ◌∷◌, ◌++◌, [], List,
 use Rattle.std.proofs.lemmas.List.{take_more}
 use Rattle.std.specs.Option.{option_copied}
 use Rattle.std.specs.Str.{bytes_eq}
-use Rattle.spop_hello.specs.Offer.{value_of}
+use Rattle.spop_hello.specs.Client.{value_of}
 use Rattle.spop_data.specs.declared.value.Pair.{Pair}
-use Rattle.spop_hello.proofs.Offers.{value_is, value_stays}
-use Rattle.spop_hello.proofs.offer.value_in.Goals as goal
-use Rattle.spop_hello.proofs.offer.value_in.Goals.{then-eq, else-eq}
+use Rattle.spop_hello.proofs.Pairs.{value_is, value_stays}
+use Rattle.spop_hello.proofs.client.value_in.Goals as goal
+use Rattle.spop_hello.proofs.client.value_in.Goals.{then-eq, else-eq}
 
 pub loop-pair-preserved : goal.loop-pair-preserved
 loop-pair-preserved c =

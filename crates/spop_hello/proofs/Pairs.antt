@@ -5,7 +5,7 @@ use Rattle.std.specs.Str.{bytes_eq}
 use Rattle.spop_data.specs.Data.{SpellsPair}
 use Rattle.spop_data.specs.declared.value.Data as values
 use Rattle.spop_data.specs.declared.value.Pair.{Pair}
-use Rattle.spop_hello.specs.Offer.{or_else, value_of}
+use Rattle.spop_hello.specs.Client.{or_else, value_of}
 
 -- a pair has a byte at least
 pub some : (bytes : List ℕ) (p : Pair) → SpellsPair bytes p → 0 < length bytes

@@ -5,8 +5,8 @@ use Rattle.spop_data.specs.Reading.{pair_at}
 use Rattle.spop_data.specs.declared.value.Pair.{Pair}
 use Rattle.spop_data.proofs.Items.{after, smaller, after_one, left_bytes}
 use Rattle.spop_data.proofs.Laws.{pair}
-use Rattle.spop_hello.proofs.Offers.{some, not_empty}
-use Rattle.spop_hello.proofs.offer.pairs_in.Goals as goal
+use Rattle.spop_hello.proofs.Pairs.{some, not_empty}
+use Rattle.spop_hello.proofs.client.pairs_in.Goals as goal
 
 pub loop-rest-smaller : goal.loop-rest-smaller
 loop-rest-smaller c =
