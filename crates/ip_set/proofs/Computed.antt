@@ -1,8 +1,10 @@
 -- The tests that compute agree with the facts.
-use Rattle.std.proofs.Common.{◌≡◌, ℕ, ◌+◌, ◌<◌, ◌≤◌, inl, inr, Bool, true, false, List, [], ◌∷◌, ◌++◌, length, get_or, take, drop, refl, sym, ap, subst, ◌∙◌, arith, append-nil, length-append, ne_eqb, lit≤, Option, Some, None}
-use Rattle.std.specs.Prelude.{◌↔◌, IsTrue, decimal, bytes_eq, ◌&&◌, nat_le}
+use Rattle.std.proofs.Common.{◌≡◌, ℕ, zero, suc, ◌+◌, ◌<◌, ◌≤◌, inl, inr, Bool, true, false, cond, List, [], ◌∷◌, ◌++◌, length, get_or, take, drop, refl, sym, ap, subst, ◌∙◌, arith, append-nil, length-append, ne_eqb, lit≤, Option, Some, None}
+use Rattle.std.specs.Prelude.{◌↔◌, ◌^◌, IsTrue, MatchOption, decimal, bytes_eq, nat_le}
 use Rattle.std.specs.Bool.{◌==◌}
-use Rattle.std.specs.List.{list_any, range_with_len}
+use Rattle.std.specs.List.{find, list_all, list_any, range_with_len}
+use Rattle.std.proofs.lemmas.Fmt.{decimal_injective}
+use Rattle.std.proofs.lemmas.Bool.{and_parts, cases_Bool}
 use Rattle.std.proofs.lemmas.Bool.Decides.{nat_tests}
 use Rattle.std.proofs.lemmas.List.Folds.{Any-from_list_any, list_any-from_Any, list_any_at}
 use Rattle.std.proofs.lemmas.List.FromFn.{get_or-range_with_len, length-range_with_len}
@@ -17,8 +19,9 @@ use Rattle.std.proofs.NetLemmas.Ipv6.{read_ipv6_complete, read_ipv6_sound, EndsG
 use Rattle.std.specs.declared.net.ip_addr.IpAddr.{IpAddr}
 use Rattle.std.specs.declared.net.ip_addr.IpAddr.TheVariants.{V4, V6}
 use Rattle.ip_set.specs.declared.block.Block.{Block}
-use Rattle.ip_set.specs.Blocks.{width, IsWord, Covers, CoversAt, IsMember, IsIn}
-use Rattle.ip_set.specs.Membership.{ip_from, ip_of, covers_at, block_covers, cut_covers, whole_or_cut, word_covers, any_covers, is_in, is_member}
+use Rattle.ip_set.specs.Blocks.{width, HasNoSlash, IsWord, Covers, CoversAt, IsMember, IsIn}
+use Rattle.ip_set.specs.Membership.{ip_from, ip_of, covers_at, last_slash, slash_before, bits_of, block_with, cut_block, whole_or_cut, block_of, block_covers, word_covers, any_covers, is_in, is_member}
+use Rattle.ip_set.proofs.Words.{no_slash}
 
 not_whole : {A : Type 0} (a : A) (c : ℕ) (rest : List ℕ) → whole_value (Some (a, c ∷ rest)) ≡ None
 not_whole {A} a c rest = rw (ne_eqb (length (c ∷ rest)) 0 (omega arith)) refl
@@ -81,17 +84,6 @@ covers_test (V6 a) n (V6 b) h = true_same _ _ h
 covers_test (V4 a) n (V6 b) h = absurd h
 covers_test (V6 a) n (V4 b) h = absurd h
 
-and_left : (a b : Bool) → (a && b) ≡ true → a ≡ true
-and_left true b e = refl
-and_left false b e = cc
-
-and_right : (a b : Bool) → (a && b) ≡ true → b ≡ true
-and_right true b e = e
-and_right false b e = cc
-
-and_both : (a b : Bool) → a ≡ true → b ≡ true → (a && b) ≡ true
-and_both a b p q = rw (p, q) refl
-
 le_fact : (a b : ℕ) → nat_le a b ≡ true → a ≤ b
 le_fact a b e = grind (arith, nat_tests, e)
 
@@ -105,29 +97,22 @@ none_of : (text : List ℕ) → ((ip : IpAddr) → ¬ IsIpText text ip) → (o :
 none_of text none None e = refl
 none_of text none (Some a) e = absurd (none a (spelled text a e))
 
-block_fact : (word : List ℕ) (ip : IpAddr) (k n : ℕ) (o : Option IpAddr) → ((a : IpAddr) → ¬ IsIpText word a) → ip_of (take k word) ≡ o
-    → drop k word ≡ 47 ∷ decimal n → block_covers o n ip ≡ true → (b : Block) × IsWord word b × Covers b ip
-block_fact word ip k n None none e cut covers = cc
-block_fact word ip k n (Some a) none e cut covers =
-    let whole : word ≡ take k word ++ 47 ∷ decimal n = sym (take-append-drop k word) ∙ ap (λ (l : List ℕ). take k word ++ l) cut in (
-      record { address = a; bits = n },
-      inr (none, take k word, whole, spelled (take k word) a e, le_fact n (width a) (and_left _ _ covers)),
-      covers_fact a n ip (and_right (nat_le n (width a)) _ covers),
-    )
+-- ---- the block that a word names
 
-cut_fact : (word : List ℕ) (ip : IpAddr) (k n : ℕ) → ((a : IpAddr) → ¬ IsIpText word a) → cut_covers word ip k n ≡ true → (b : Block) × IsWord word b × Covers b ip
-unfolding cut_covers
-cut_fact word ip k n none e =
-    let cut : drop k word ≡ 47 ∷ decimal n = (bytes_eq-Decides (drop k word) (47 ∷ decimal n)).0 (and_left _ _ e) in
-    block_fact word ip k n (ip_of (take k word)) none refl cut (and_right (bytes_eq (drop k word) (47 ∷ decimal n)) _ e)
+-- what is found passes the test, and what passes is found, where one value alone does
+found : (p : ℕ → Bool) (xs : List ℕ) (n : ℕ) → find p xs ≡ Some n → p n ≡ true
+found p [] n e = cc
+found p (x ∷ xs) n e = elim (cases_Bool (p x)) [
+  | inl is ↦ (let given : Some x ≡ Some n = rw is at e in let same : x ≡ n = cc in subst (λ (m : ℕ). p m ≡ true) same is)
+  | inr other ↦ found p xs n (rw other at e)
+]
 
-word_fact : (word : List ℕ) (ip : IpAddr) (o : Option IpAddr) → ip_of word ≡ o → whole_or_cut o word ip ≡ true → (b : Block) × IsWord word b × Covers b ip
-unfolding whole_or_cut
-word_fact word ip (Some a) e covers = (record { address = a; bits = width a }, inl (spelled word a e, refl), covers_fact a (width a) ip covers)
-word_fact word ip None e covers =
-    let outer = Any-from_list_any (λ k. list_any (cut_covers word ip k) (range_with_len 0 129)) (range_with_len 0 (length word)) covers in
-    let inner = Any-from_list_any (cut_covers word ip outer.1) (range_with_len 0 129) outer.4 in
-    cut_fact word ip outer.1 inner.1 (no_address word e) inner.4
+finds : (p q : ℕ → Bool) (xs : List ℕ) (n : ℕ) → list_any p xs ≡ true → list_all q xs ≡ true → ((m : ℕ) → p m ≡ true → q m ≡ true → m ≡ n) → find p xs ≡ Some n
+finds p q [] n some all only = cc
+finds p q (x ∷ xs) n some all only = elim (cases_Bool (p x)) [
+  | inl is ↦ rw is (ap Some (only x is (and_parts (q x) (list_all q xs) all).0))
+  | inr other ↦ rw other (finds p q xs n (rw other at some) (and_parts (q x) (list_all q xs) all).1 only)
+]
 
 any_range : (p : ℕ → Bool) (n i : ℕ) → i < n → p i ≡ true → list_any p (range_with_len 0 n) ≡ true
 any_range p n i below is =
@@ -135,42 +120,125 @@ any_range p n i below is =
     let at : get_or (range_with_len 0 n) i 0 ≡ i = get_or-range_with_len 0 n i 0 below ∙ same in
     list_any_at p (range_with_len 0 n) i 0 (omega (arith, below, length-range_with_len 0 n)) (rw at is)
 
-cut_test : (word address : List ℕ) (ip : IpAddr) (b : Block) → word ≡ address ++ 47 ∷ decimal b.bits → IsIpText address b.address → b.bits ≤ width b.address → Covers b ip → cut_covers word ip (length address) b.bits ≡ true
-unfolding cut_covers
-cut_test word address ip b whole text fits covers =
-    let back : drop (length address) word ≡ 47 ∷ decimal b.bits = rw whole (drop-append_seam address (47 ∷ decimal b.bits)) in
-    let front : take (length address) word ≡ address = rw whole (take-append_seam address (47 ∷ decimal b.bits)) in
-    and_both (bytes_eq (drop (length address) word) (47 ∷ decimal b.bits)) _
-    ((bytes_eq-Decides (drop (length address) word) (47 ∷ decimal b.bits)).1 back)
-    (rw (front, gives address b.address text) (and_both (nat_le b.bits (width b.address)) _ (le_test _ _ fits) (covers_test b.address b.bits ip covers)))
+bits_fact : (text : List ℕ) (n : ℕ) → bits_of text ≡ Some n → text ≡ decimal n
+unfolding bits_of
+bits_fact text n e = (bytes_eq-Decides text (decimal n)).0 (found (λ m. bytes_eq text (decimal m)) (range_with_len 0 129) n e)
+
+bits_test : (n : ℕ) → n < 129 → bits_of (decimal n) ≡ Some n
+unfolding bits_of
+bits_test n few =
+    finds (λ m. bytes_eq (decimal n) (decimal m)) (λ m. nat_le m 128) (range_with_len 0 129) n
+    (any_range (λ m. bytes_eq (decimal n) (decimal m)) 129 n few ((bytes_eq-Decides (decimal n) (decimal n)).1 refl))
+    refl
+    (λ m is small.
+        let low : m ≤ 128 = le_fact m 128 small in
+        decimal_injective m n (omega (arith, low)) (omega (arith, few)) (sym ((bytes_eq-Decides (decimal n) (decimal m)).0 is)))
+
+pair_is : (x y : List ℕ × List ℕ) → Some x ≡ Some y → (x.0 ≡ y.0) × (x.1 ≡ y.1)
+pair_is x y e = let pair : x ≡ y = cc in (ap (λ (p : List ℕ × List ℕ). p.0) pair, ap (λ (p : List ℕ × List ℕ). p.1) pair)
+
+-- a text is what stands before and after its last slash
+slash_fact : (word front back : List ℕ) → last_slash word ≡ Some (front, back) → word ≡ front ++ 47 ∷ back
+slash_fact [] front back e = cc
+slash_fact (c ∷ rest) front back e = go (slash_fact rest) (last_slash rest) refl (c == 47) refl e
+  where
+    go : ((first last : List ℕ) → last_slash rest ≡ Some (first, last) → rest ≡ first ++ 47 ∷ last) → (o : Option (List ℕ × List ℕ)) → last_slash rest ≡ o → (p : Bool) → (c == 47) ≡ p → slash_before c rest o ≡ Some (front, back) → c ∷ rest ≡ front ++ 47 ∷ back
+    go more_of (Some x) is p q e =
+        let more : rest ≡ x.0 ++ 47 ∷ x.1 = more_of x.0 x.1 is in
+        let both = pair_is (c ∷ x.0, x.1) (front, back) e in
+        rw (sym both.0, sym both.1) (ap (λ (l : List ℕ). c ∷ l) more)
+    go more_of None is true q e =
+        let slash : c ≡ 47 = same_true c 47 q in
+        let both = pair_is ([], rest) (front, back) (rw q at e) in
+        rw (sym both.0, sym both.1, slash) refl
+    go more_of None is false q e = let given : None ≡ Some (front, back) = rw q at e in cc
+
+no_slash_found : (text : List ℕ) → HasNoSlash text → last_slash text ≡ None
+no_slash_found [] none = refl
+no_slash_found (c ∷ rest) none =
+    let more : last_slash rest ≡ None = no_slash_found rest (λ k d below. none (suc k) d (omega (arith, below))) in
+    let other : (c == 47) ≡ false = ne_eqb c 47 (none zero c (omega arith)) in
+    rw (more, other) refl
+
+slash_test : (front back : List ℕ) → HasNoSlash back → last_slash (front ++ 47 ∷ back) ≡ Some (front, back)
+slash_test [] back none = rw (no_slash_found back none) refl
+slash_test (c ∷ front) back none = rw (slash_test front back none) refl
 
 few_bits : (a : IpAddr) → width a ≤ 128
 few_bits (V4 a) = omega arith
 few_bits (V6 a) = omega arith
 
-word_test : (word : List ℕ) (ip : IpAddr) (b : Block) → IsWord word b → Covers b ip → word_covers ip word ≡ true
-unfolding whole_or_cut
-word_test word ip b (inl p) covers =
-    rw (gives word b.address p.0) (covers_test b.address (width b.address) ip (subst (λ (n : ℕ). CoversAt b.address n ip) p.1 covers))
-word_test word ip b (inr p) covers =
+with_fact : (text : List ℕ) (b : Block) (o : Option IpAddr) (n : Option ℕ) → ip_of text ≡ o → block_with o n ≡ Some b → (n ≡ Some b.bits) × IsIpText text b.address × (b.bits ≤ width b.address)
+with_fact text b None n e is = cc
+with_fact text b (Some a) None e is = cc
+with_fact text b (Some a) (Some n) e is = go (nat_le n (width a)) refl is
+  where
+    go : (p : Bool) → nat_le n (width a) ≡ p → cond p (Some (record { address = a; bits = n })) None ≡ Some b → (Some n ≡ Some b.bits) × IsIpText text b.address × (b.bits ≤ width b.address)
+    go true fits is =
+        let same : record { address = a; bits = n } ≡ b = cc in
+        subst (λ (d : Block). (Some n ≡ Some d.bits) × IsIpText text d.address × (d.bits ≤ width d.address)) same (refl, spelled text a e, le_fact n (width a) fits)
+    go false fits is = cc
+
+word_fact : (word : List ℕ) (b : Block) (o : Option IpAddr) → ip_of word ≡ o → whole_or_cut o word ≡ Some b → IsWord word b
+word_fact word b (Some a) e is =
+    let same : record { address = a; bits = width a } ≡ b = cc in
+    subst (λ (d : Block). IsWord word d) same (inl (spelled word a e, refl))
+word_fact word b None e is = go (last_slash word) refl is
+  where
+    go : (o : Option (List ℕ × List ℕ)) → last_slash word ≡ o → cut_block o ≡ Some b → IsWord word b
+    go None cut is = cc
+    go (Some x) cut is =
+        let parts = with_fact x.0 b (ip_of x.0) (bits_of x.1) refl is in
+        inr (
+          no_address word e,
+          x.0,
+          slash_fact word x.0 x.1 cut ∙ ap (λ (l : List ℕ). x.0 ++ 47 ∷ l) (bits_fact x.1 b.bits parts.0),
+          parts.1,
+          parts.2,
+        )
+
+word_test : (word : List ℕ) (b : Block) → IsWord word b → block_of word ≡ Some b
+unfolding block_of
+word_test word b (inl p) = rw (gives word b.address p.0, sym p.1) refl
+word_test word b (inr p) =
     let none : ip_of word ≡ None = none_of word p.0 (ip_of word) refl in
-    let below : length p.1 < length word = omega (arith, ap length p.2, length-append p.1 (47 ∷ decimal b.bits)) in
     let few : b.bits < 129 = omega (arith, p.4, few_bits b.address) in
-    rw none (any_range (λ k. list_any (cut_covers word ip k) (range_with_len 0 129)) (length word) (length p.1) below
-    (any_range (cut_covers word ip (length p.1)) 129 b.bits few (cut_test word p.1 ip b p.2 p.3 p.4 covers)))
+    let cut : last_slash word ≡ Some (p.1, decimal b.bits) = ap last_slash p.2 ∙ slash_test p.1 (decimal b.bits) (no_slash b.bits (omega (arith, few))) in
+    rw (none, cut, gives p.1 b.address p.3, bits_test b.bits few, le_test b.bits (width b.address) p.4) refl
+
+-- the function gives the block that the word names, and no other
+pub names_block : (word : List ℕ) (b : Block) → (block_of word ≡ Some b) ↔ IsWord word b
+unfolding block_of
+names_block word b = (word_fact word b (ip_of word) refl, word_test word b)
+
+none_named : (word : List ℕ) (o : Option Block) → block_of word ≡ o → ((b : Block) → ¬ IsWord word b) → None ≡ o
+none_named word None e none = refl
+none_named word (Some b) e none = absurd (none b ((names_block word b).0 e))
+
+-- what names the block that the word names is the function's value
+pub block_is : (word : List ℕ) (o : Option Block) → MatchOption o ((b : Block) → ¬ IsWord word b) (λ b. IsWord word b) → o ≡ block_of word
+block_is word None none = none_named word (block_of word) refl none
+block_is word (Some b) is = sym ((names_block word b).1 is)
+
+covers_word : (word : List ℕ) (ip : IpAddr) (o : Option Block) → block_of word ≡ o → block_covers o ip ≡ true → (b : Block) × IsWord word b × Covers b ip
+covers_word word ip None e is = cc
+covers_word word ip (Some b) e is = (b, (names_block word b).0 e, covers_fact b.address b.bits ip is)
+
+word_covered : (word : List ℕ) (ip : IpAddr) (b : Block) → IsWord word b → Covers b ip → word_covers ip word ≡ true
+word_covered word ip b is covers = rw ((names_block word b).1 is) (covers_test b.address b.bits ip covers)
 
 in_fact : (words : List (List ℕ)) (text : List ℕ) (o : Option IpAddr) → ip_of text ≡ o → any_covers word_covers o words ≡ true → IsIn words text
 in_fact words text None e is = cc
 in_fact words text (Some ip) e is =
     let a = Any-from_list_any (word_covers ip) words is in
-    (ip, spelled text ip e, (a.0, a.1, a.2, a.3, word_fact a.1 ip (ip_of a.1) refl a.4))
+    (ip, spelled text ip e, (a.0, a.1, a.2, a.3, covers_word a.1 ip (block_of a.1) refl a.4))
 
 -- the words' test is membership
 pub in_words : (words : List (List ℕ)) (text : List ℕ) → IsTrue (is_in words text) ↔ IsIn words text
 unfolding is_in
 in_words words text = (
   λ is. in_fact words text (ip_of text) refl is,
-  λ h. rw (gives text h.0 h.1) (list_any-from_Any (word_covers h.0) words (h.2.0, h.2.1, h.2.2, h.2.3, word_test h.2.1 h.0 h.2.4.0 h.2.4.1 h.2.4.2)),
+  λ h. rw (gives text h.0 h.1) (list_any-from_Any (word_covers h.0) words (h.2.0, h.2.1, h.2.2, h.2.3, word_covered h.2.1 h.0 h.2.4.0 h.2.4.1 h.2.4.2)),
 )
 
 member_fact : (blocks : List Block) (text : List ℕ) (o : Option IpAddr) → ip_of text ≡ o → any_covers (λ ip (b : Block). covers_at b.address b.bits ip) o blocks ≡ true → IsMember blocks text

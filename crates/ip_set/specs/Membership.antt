@@ -1,6 +1,6 @@
--- Membership as a test that computes, by the texts of the words alone.
-use Rattle.std.specs.Prelude.{ℕ, ◌-◌, ◌/◌, ◌^◌, Bool, false, ◌&&◌, ◌==◌, nat_le, List, ◌∷◌, length, take, drop, decimal, Option, Some, None, bytes_eq}
-use Rattle.std.specs.List.{list_any, range_with_len}
+-- The block that a word names, and membership, as functions that compute.
+use Rattle.std.specs.Prelude.{ℕ, ◌-◌, ◌/◌, ◌^◌, Bool, false, ◌==◌, nat_le, List, [], ◌∷◌, decimal, Option, Some, None, bytes_eq, if◌then◌else◌}
+use Rattle.std.specs.List.{find, list_any, range_with_len}
 use Rattle.std.specs.Net.Addr.{ipv4_bits, ipv6_bits}
 use Rattle.std.specs.Net.Reader.{read_ipv4, read_ipv6, whole_value}
 use Rattle.std.specs.declared.net.ip_addr.IpAddr.{IpAddr}
@@ -27,21 +27,48 @@ covers_at (V6 a) n (V6 b) = agree_in 128 n (ipv6_bits a) (ipv6_bits b)
 covers_at (V4 a) n (V6 b) = false
 covers_at (V6 a) n (V4 b) = false
 
-abbrev pub block_covers : Option IpAddr → ℕ → IpAddr → Bool
-block_covers None n ip = false
-block_covers (Some a) n ip = nat_le n (width a) && covers_at a n ip
+-- ---- the block that a word names
 
--- the first k bytes are an address, `/` and n stand behind them, and this block covers the address
-unfoldable pub cut_covers : List ℕ → IpAddr → ℕ → ℕ → Bool
-cut_covers word ip k n = bytes_eq (drop k word) (47 ∷ decimal n) && block_covers (ip_of (take k word)) n ip
+-- the text before the last slash, and that after it
+abbrev pub slash_before : ℕ → List ℕ → Option (List ℕ × List ℕ) → Option (List ℕ × List ℕ)
+slash_before c rest (Some x) = Some (c ∷ x.0, x.1)
+slash_before c rest None = if c == 47 then Some ([], rest) else None
 
-unfoldable pub whole_or_cut : Option IpAddr → List ℕ → IpAddr → Bool
-whole_or_cut (Some a) word ip = covers_at a (width a) ip
-whole_or_cut None word ip = list_any (λ k. list_any (cut_covers word ip k) (range_with_len 0 129)) (range_with_len 0 (length word))
+abbrev pub last_slash : List ℕ → Option (List ℕ × List ℕ)
+last_slash [] = None
+last_slash (c ∷ rest) = slash_before c rest (last_slash rest)
 
--- the word is this address, or a block that covers it
+-- a number of bits in decimal digits, without a sign or a leading zero
+unfoldable pub bits_of : List ℕ → Option ℕ
+bits_of text = find (λ n. bytes_eq text (decimal n)) (range_with_len 0 129)
+
+-- so many bits of an address, where its version has them
+abbrev pub block_with : Option IpAddr → Option ℕ → Option block.Block
+block_with None bits = None
+block_with (Some a) None = None
+block_with (Some a) (Some n) = if nat_le n (width a) then Some (record { address = a; bits = n }) else None
+
+abbrev pub cut_block : Option (List ℕ × List ℕ) → Option block.Block
+cut_block None = None
+cut_block (Some x) = block_with (ip_of x.0) (bits_of x.1)
+
+abbrev pub whole_or_cut : Option IpAddr → List ℕ → Option block.Block
+whole_or_cut (Some a) word = Some (record { address = a; bits = width a })
+whole_or_cut None word = cut_block (last_slash word)
+
+-- an address is a block of one; else an address, `/` and a number of bits
+unfoldable pub block_of : List ℕ → Option block.Block
+block_of word = whole_or_cut (ip_of word) word
+
+-- ---- membership
+
+abbrev pub block_covers : Option block.Block → IpAddr → Bool
+block_covers None ip = false
+block_covers (Some b) ip = covers_at b.address b.bits ip
+
+-- the word names a block that covers the address
 abbrev pub word_covers : IpAddr → List ℕ → Bool
-word_covers ip word = whole_or_cut (ip_of word) word ip
+word_covers ip word = block_covers (block_of word) ip
 
 abbrev pub any_covers : {A : Type 0} → (IpAddr → A → Bool) → Option IpAddr → List A → Bool
 any_covers test None xs = false

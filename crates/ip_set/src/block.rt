@@ -1,4 +1,5 @@
-ghost use Rattle.std.specs.Prelude.{◌≡◌, ◌≢◌, ◌≤◌, ◌<◌, ◌++◌, ◌∷◌, List, ℕ, MatchOption, IfSome, IsTrue, ◌↔◌, decimal};
+ghost use Rattle.std.specs.Prelude.{◌≡◌, ◌≢◌, ◌≤◌, ◌<◌, ◌++◌, ◌∷◌, List, ℕ, MatchOption, IfSome, IsTrue, ◌↔◌, decimal, Some};
+ghost use Rattle.ip_set.specs.Membership.{block_of};
 ghost use Rattle.ip_set.specs.Blocks.{width, IsWord, Covers, AgreesIn, HasNoSlash, HasPlainFront};
 
 use memchr::memrchr;
@@ -15,6 +16,13 @@ impl Block {
     /// The block that a word names: an address, which is a block of one, or an address, `/` and a
     /// number of at most 32, or 128 for version 6, in decimal digits without a sign or a leading zero.
     pub fn read(word: &[u8]) -> Option<Block>
+        ensures word { MatchOption result ((b : Block) → ¬ IsWord word.now b) (λ b. IsWord word.now b) }
+        ensures block { result ≡ block_of word.now }
+    {
+        Block::read_word(word)
+    }
+
+    fn read_word(word: &[u8]) -> Option<Block>
         ensures { MatchOption result ((b : Block) → ¬ IsWord word.now b) (λ b. IsWord word.now b) }
     {
         if let Ok(address) = IpAddr::parse_ascii(word) {
@@ -75,7 +83,8 @@ fn agree_long(bits: u8, a: u128, b: u128) -> bool
 
 /// The text before the last slash, and that behind it.
 fn cut(word: &[u8]) -> Option<(&[u8], &[u8])>
-    ensures only { MatchOption result ((a b : List ℕ) → HasNoSlash b → word.now ≢ a ++ 47 ∷ b) (λ p. (a b : List ℕ) → HasNoSlash b → word.now ≡ a ++ 47 ∷ b → (p.0.now ≡ a) × (p.1.now ≡ b)) }
+    ensures only { MatchOption result ((a b : List ℕ) → HasNoSlash b → word.now ≢ a ++ 47 ∷ b) (λ p.
+        (a b : List ℕ) → HasNoSlash b → word.now ≡ a ++ 47 ∷ b → (p.0.now ≡ a) × (p.1.now ≡ b)) }
     ensures whole { IfSome result (λ p. word.now ≡ p.0.now ++ 47 ∷ p.1.now) }
 {
     let Some(at) = memrchr(b'/', word) else {
@@ -110,3 +119,8 @@ fn has_plain_front(text: &[u8]) -> bool
         _ => true,
     }
 }
+
+/// The block of a word is the one that it names: an address, or an address, `/` and a number.
+pub fn block_of_a_word()
+    ensures { (word : List ℕ) (b : Block) → (block_of word ≡ Some b) ↔ IsWord word b }
+{}

@@ -1,5 +1,12 @@
 //! The rule language as plain data: what a listing of rules holds, in the shape in which it is read,
 //! printed and evaluated. Every field is public, and every clone is equal to its original.
+//!
+//! ```text
+//! print_listing(alloc, &listing, &mut out)?;
+//! ```
+//!
+//! appends `listing_text` of `specs/Print.antt` to `out`; the names of variables, operators,
+//! transformations and settings are tables of `specs/`.
 #![tactic(auto)]
 
 mod action;

@@ -5,3 +5,6 @@ pub mod PhraseLoop
 pub mod Shrinking
 pub mod TargetLoop
 pub mod WordLaws
+pub mod Given
+pub mod PieceBounds
+pub mod ListReadings

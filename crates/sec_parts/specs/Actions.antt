@@ -16,7 +16,8 @@ use Rattle.sec_parts.specs.Results.{◌>>=◌, bad, refused}
 use Rattle.sec_parts.specs.Numbers.{number_in}
 use Rattle.sec_parts.specs.Macros.{macro_of}
 use Rattle.sec_parts.specs.Kinds.{is_refused_action, is_refused_transform, kind_named, may_stand}
-use Rattle.sec_parts.specs.Changes.{ctl_of, setvar_of}
+use Rattle.sec_parts.specs.Changes.{ctl_of, identifier, setvar_of}
+use Rattle.sec_parts.specs.declared.limits.TheConstants.{MAX_PHASE, MAX_SKIP, MAX_STATUS, MIN_STATUS}
 
 -- ---- values; piece: the whole piece, which is the word of a fault
 
@@ -33,19 +34,19 @@ phase_in text =
     if is_word (codes "request") text then Some 2
     else (if is_word (codes "response") text then Some 4
     else (if is_word (codes "logging") text then Some 5
-    else number_in 1 5 text))
+    else number_in 1 MAX_PHASE text))
 
 abbrev pub id_of : List ℕ → List ℕ → Result Action Bad
-id_of piece text = or_bad piece (number_in 1 999999999 text) (λ n. actions.Id n)
+id_of piece text = or_bad piece (identifier text) (λ n. actions.Id n)
 
 abbrev pub phase_of : List ℕ → List ℕ → Result Action Bad
 phase_of piece text = or_bad piece (phase_in text) (λ n. actions.Phase n)
 
 abbrev pub status_of : List ℕ → List ℕ → Result Action Bad
-status_of piece text = or_bad piece (number_in 100 999 text) (λ n. actions.Status n)
+status_of piece text = or_bad piece (number_in MIN_STATUS MAX_STATUS text) (λ n. actions.Status n)
 
 abbrev pub skip_of : List ℕ → List ℕ → Result Action Bad
-skip_of piece text = or_bad piece (number_in 1 20000 text) (λ n. actions.Skip n)
+skip_of piece text = or_bad piece (number_in 1 MAX_SKIP text) (λ n. actions.Skip n)
 
 abbrev pub msg_of : List ℕ → Result Action Bad
 msg_of text = macro_of text >>= λ parts. Ok (actions.Msg parts)

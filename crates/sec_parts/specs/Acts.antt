@@ -1,5 +1,6 @@
 -- What a list of actions says, taken together.
-use Rattle.std.specs.Prelude.{ℕ, zero, suc, Bool, true, false, List, [], ◌∷◌, ◌++◌, length, is_some, Option, Some, None, Result, Ok, if◌then◌else◌}
+use Rattle.std.specs.Prelude.{◌≡◌, ℕ, zero, suc, Bool, true, false, List, [], ◌∷◌, ◌++◌, length, is_some, Option, Some, None, Result, Ok, Err, if◌then◌else◌}
+use Rattle.sec_text.specs.Readers.{Takes}
 use Rattle.sec_parts.specs.declared.faults.Bad.{Bad}
 use Rattle.sec_parts.specs.declared.pieces.Piece.{Piece}
 use Rattle.sec_parts.specs.declared.kinds.Stand.{Stand}
@@ -75,3 +76,26 @@ pieces_in stand (suc most) (Some text) acts = do
 
 unfoldable pub actions_in : Stand → List ℕ → Result Acts Bad
 actions_in stand text = pieces_in stand (suc (length text)) (Some text) no_acts
+
+-- ---- the same as a relation: one piece after the other, each added to what those before it say
+
+-- what is left of a text, and what was said before that
+abbrev pub Progress : Type 0
+Progress = Option (List ℕ) × Acts
+
+abbrev pub with_next : Piece → Option (List ℕ) → Result Acts Bad → Result (Option (Piece × Progress)) Bad
+with_next piece rest (Ok acts) = Ok (Some (piece, (rest, acts)))
+with_next piece rest (Err fault) = Err fault
+
+abbrev pub next_action : Stand → Progress → Result (Option (Piece × Progress)) Bad
+next_action stand (None, acts) = Ok None
+next_action stand (Some text, acts) = piece_at text >>= λ piece. with_next piece.0 piece.1 (with_piece stand piece.0 acts)
+
+-- good pieces up to the end say this, or some good pieces come before one that is refused with this fault
+abbrev pub ActsFrom : Stand → Progress → Result Acts Bad → Type 0
+ActsFrom stand start (Ok acts) = (pieces : List Piece) × Takes (next_action stand) start pieces (None, acts)
+ActsFrom stand start (Err fault) =
+    (pieces : List Piece) × (rest : Progress) × Takes (next_action stand) start pieces rest × (next_action stand rest ≡ Err fault)
+
+abbrev pub AreActs : Stand → List ℕ → Result Acts Bad → Type 0
+AreActs stand text answer = ActsFrom stand (Some text, no_acts) answer

@@ -13,6 +13,7 @@ use Rattle.sec_ast.specs.declared.Processor.{Processor}
 use Rattle.sec_parts.specs.declared.faults.Bad.{Bad}
 use Rattle.sec_parts.specs.declared.controls.CtlKind.{CtlKind}
 use Rattle.sec_parts.specs.declared.controls.CtlKind.TheVariants as kinds
+use Rattle.sec_parts.specs.declared.limits.TheConstants.{MAX_ID}
 use Rattle.sec_parts.specs.declared.actions.Action.{Action}
 use Rattle.sec_parts.specs.declared.actions.Action.TheVariants as actions
 use Rattle.sec_parts.specs.Results.{◌>>=◌, bad, refused}
@@ -115,7 +116,7 @@ switch_named text =
 
 -- an identifier, or two joined by - of which the first is not greater
 abbrev pub identifier : List ℕ → Option ℕ
-identifier text = number_in 1 999999999 text
+identifier text = number_in 1 MAX_ID text
 
 abbrev pub range_of : Option ℕ → Option ℕ → Option (ℕ × ℕ)
 range_of (Some first) (Some last) = if nat_le first last then Some (first, last) else None

@@ -4,9 +4,10 @@ ghost use Rattle.sec_parts.specs.Results.{Gives};
 ghost use Rattle.sec_parts.specs.Actions.{action_of, allow_of, alone, id_of, is_defaults, is_word, label_of, logdata_of, msg_of, phase_in, phase_of, redirect_of, skip_of, status_of, transform_of, with_value};
 
 use crate::changes::read_setvar;
-use crate::controls::read_ctl;
+use crate::controls::{read_ctl, read_identifier};
 use crate::faults::{Refusal, bad_word, refused_name};
 use crate::kinds::{Kind, Stand, is_refused_action, is_refused_transform};
+use crate::limits::{MAX_PHASE, MAX_SKIP, MAX_STATUS, MIN_STATUS};
 use crate::macros::read_macro;
 use crate::numbers::read_number;
 use crate::pieces::Piece;
@@ -48,9 +49,9 @@ fn says(text: &[u8], word: &[u8]) -> bool
 }
 
 fn read_phase_number(text: &[u8]) -> Option<u8>
-    ensures { result ≡ number_in 1 5 text.now }
+    ensures { result ≡ number_in 1 MAX_PHASE text.now }
 {
-    match read_number(text, 1, 5) {
+    match read_number(text, 1, MAX_PHASE) {
         Some(number) => Some(number as u8),
         None => None,
     }
@@ -75,7 +76,7 @@ fn phase_named(text: &[u8]) -> Option<u8>
 fn read_id(alloc: Global, piece: &[u8], text: &[u8]) -> Result<Action, Refusal>
     ensures { Gives (λ a. a) result (id_of piece.now text.now) }
 {
-    match read_number(text, 1, 999_999_999) {
+    match read_identifier(text) {
         Some(id) => Ok(Action::Id(id)),
         None => Err(bad_word(alloc, piece)),
     }
@@ -93,7 +94,7 @@ fn read_phase(alloc: Global, piece: &[u8], text: &[u8]) -> Result<Action, Refusa
 fn read_status(alloc: Global, piece: &[u8], text: &[u8]) -> Result<Action, Refusal>
     ensures { Gives (λ a. a) result (status_of piece.now text.now) }
 {
-    match read_number(text, 100, 999) {
+    match read_number(text, MIN_STATUS, MAX_STATUS) {
         Some(status) => Ok(Action::Status(status)),
         None => Err(bad_word(alloc, piece)),
     }
@@ -102,7 +103,7 @@ fn read_status(alloc: Global, piece: &[u8], text: &[u8]) -> Result<Action, Refus
 fn read_skip(alloc: Global, piece: &[u8], text: &[u8]) -> Result<Action, Refusal>
     ensures { Gives (λ a. a) result (skip_of piece.now text.now) }
 {
-    match read_number(text, 1, 20000) {
+    match read_number(text, 1, MAX_SKIP) {
         Some(skip) => Ok(Action::Skip(skip)),
         None => Err(bad_word(alloc, piece)),
     }

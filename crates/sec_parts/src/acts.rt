@@ -1,6 +1,7 @@
-ghost use Rattle.std.specs.Prelude.{◌≡◌, IfOk};
+ghost use Rattle.std.specs.Prelude.{◌≡◌, IfOk, List, Result, ℕ};
+ghost use Rattle.sec_parts.specs.declared.faults.Bad.{Bad};
 ghost use Rattle.sec_parts.specs.Results.{Gives};
-ghost use Rattle.sec_parts.specs.Acts.{actions_in, added, no_acts, repeats, with_action, with_piece};
+ghost use Rattle.sec_parts.specs.Acts.{AreActs, actions_in, added, no_acts, repeats, with_action, with_piece};
 
 use crate::actions::{Action, read_action};
 use crate::faults::{Refusal, bad_word};
@@ -132,3 +133,11 @@ pub fn read_actions(alloc: Global, stand: Stand, text: &[u8]) -> Result<Acts, Re
     }
     Ok(acts)
 }
+
+/// A list of actions has one reading: what its pieces say, one added to the other, or the fault of
+/// the first that is refused; those before it are good.
+pub fn one_reading_of_actions()
+    ensures is { (stand : Stand) (text : List ℕ) → AreActs stand text (actions_in stand text) }
+    ensures only { (stand : Stand) (text : List ℕ) (answer : Result Acts Bad) → AreActs stand text answer
+        → answer ≡ actions_in stand text }
+{}

@@ -4,6 +4,7 @@ ghost use Rattle.sec_parts.specs.Changes.{ctl_name, ctl_named, ctl_of, id_range,
 
 use crate::actions::Action;
 use crate::faults::{Refusal, bad_word, refused_name};
+use crate::limits::MAX_ID;
 use crate::numbers::read_number;
 use crate::texts::count_to;
 use sec_ast::{Ctl, Engine, Processor, is_among};
@@ -94,7 +95,7 @@ pub fn read_switch(text: &[u8]) -> Option<bool>
 pub fn read_identifier(text: &[u8]) -> Option<u32>
     ensures { result ≡ identifier text.now }
 {
-    read_number(text, 1, 999_999_999)
+    read_number(text, 1, MAX_ID)
 }
 
 fn range_between(first: Option<u32>, last: Option<u32>) -> Option<(u32, u32)>

@@ -161,5 +161,6 @@ pub fn read_macro(alloc: Global, text: &[u8]) -> Result<Macro, Refusal>
 /// A text has one reading as a macro: its parts up to its end, or its first fault.
 pub fn one_reading_of_a_macro()
     ensures is { (text : List ℕ) → ReadsAll part_at text (macro_of text) }
-    ensures only { (text : List ℕ) (answer : Result (List Part) Bad) → ReadsAll part_at text answer → answer ≡ macro_of text }
+    ensures only { (text : List ℕ) (answer : Result (List Part) Bad) → ReadsAll part_at text answer
+        → answer ≡ macro_of text }
 {}

@@ -74,7 +74,9 @@ fn read_to_bar<'a>(
     whole: &[u8],
     text: &'a [u8],
 ) -> Result<(Bytes, &'a [u8]), Refusal>
-    ensures part { Gives (λ x. Some (x.0, x.1.now)) result (up_to_bar whole.now (take (to_byte 124 text.now) text.now) (drop (to_byte 124 text.now) text.now)) }
+    ensures part { Gives (λ x.
+        Some (x.0, x.1.now)) result
+        (up_to_bar whole.now (take (to_byte 124 text.now) text.now) (drop (to_byte 124 text.now) text.now)) }
     ensures within { IfOk result (λ x. length (x.1).now ≤ length text.now) }
 {
     let (digits, rest) = text.split_at(count_to(text, b'|'));
@@ -160,7 +162,8 @@ fn copy_word(alloc: Global, word: &[u8]) -> Result<Bytes, Refusal>
 
 #[tactic(auto, using(crate::proofs::WordLaws::some_before))]
 fn next_address(alloc: Global, text: &[u8]) -> Result<Option<(Bytes, &[u8])>, Refusal>
-    ensures part { Gives (λ read. option_map (λ x. (x.0, x.1.now)) read) result (next_word is_parting as_it_is text.now) }
+    ensures part { Gives (λ read.
+        option_map (λ x. (x.0, x.1.now)) read) result (next_word is_parting as_it_is text.now) }
     ensures shorter { IfOk result (λ read. IfSome read (λ x. length (x.1).now < length text.now)) }
 {
     let here = text.split_at(count_parting(text)).1;
@@ -255,5 +258,6 @@ pub fn read_ranges(alloc: Global, argument: &[u8]) -> Result<Seq<Bytes>, Refusal
 /// The words of an argument have one reading, up to its end or to the first fault, whatever parts
 /// them and whatever is made of each.
 pub fn one_reading_of_words()
-    ensures { (parts : ℕ → Bool) (make : List ℕ → Result (List ℕ) Bad) (text : List ℕ) → ReadsAll (next_word parts make) text (words_of parts make text) }
+    ensures { (parts : ℕ → Bool) (make : List ℕ → Result (List ℕ) Bad) (text : List ℕ)
+        → ReadsAll (next_word parts make) text (words_of parts make text) }
 {}

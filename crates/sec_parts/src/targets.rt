@@ -1,7 +1,9 @@
-ghost use Rattle.std.specs.Prelude.{◌≡◌, ◌≤◌, ◌<◌, ◌-◌, length, slice_index, IfOk, IfSome, option_copied, Option, Some, None};
+ghost use Rattle.std.specs.Prelude.{◌≡◌, ◌≤◌, ◌<◌, ◌-◌, length, slice_index, IfOk, IfSome, option_copied, List, Option, Result, Some, None, ℕ};
+ghost use Rattle.sec_text.specs.Readers.{ReadsAll};
+ghost use Rattle.sec_parts.specs.declared.faults.Bad.{Bad};
 ghost use Rattle.sec_text.specs.Quotes.{is_blank, quoted};
 ghost use Rattle.sec_parts.specs.Results.{Gives};
-ghost use Rattle.sec_parts.specs.Targets.{behind_name, by_name, by_pattern, by_quote, fits, found, in_quotes, is_xml, marked, name_select, quoted_name, quoted_pattern, selected, selector, selector_of, target_at, targets_of, unmarked, where_blank};
+ghost use Rattle.sec_parts.specs.Targets.{behind_name, by_name, by_pattern, by_quote, fits, found, in_quotes, is_xml, marked, name_select, next_target, quoted_name, quoted_pattern, selected, selector, selector_of, target_at, targets_of, unmarked, where_blank};
 
 use crate::faults::{Refusal, bad_word, refused_name};
 use crate::texts::{
@@ -204,7 +206,8 @@ fn read_found<'a>(
     rest: &'a [u8],
 ) -> Result<(Target, Option<&'a [u8]>), Refusal>
     requires { length rest.now ≤ length text.now }
-    ensures target { Gives (λ x. (x.0, option_copied x.1)) result (found marks text.now name.now var (select, rest.now)) }
+    ensures target { Gives (λ x.
+        (x.0, option_copied x.1)) result (found marks text.now name.now var (select, rest.now)) }
     ensures shorter { IfOk result (λ x. IfSome x.1 (λ after. length after.now < length text.now)) }
 {
     let name = trim_blanks(name);
@@ -287,3 +290,11 @@ pub fn read_targets(alloc: Global, text: &[u8]) -> Result<Seq<Target>, Refusal>
     }
     Ok(targets)
 }
+
+/// A list of targets has one reading: its targets, or the fault of the first piece that is refused;
+/// those before it are good.
+pub fn one_reading_of_targets()
+    ensures is { (text : List ℕ) → ReadsAll next_target (Some text) (targets_of text) }
+    ensures only { (text : List ℕ) (answer : Result (List Target) Bad) → ReadsAll next_target (Some text) answer
+        → answer ≡ targets_of text }
+{}

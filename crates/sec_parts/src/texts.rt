@@ -3,30 +3,18 @@ ghost use Rattle.std.specs.List.{list_all};
 ghost use Rattle.sec_text.specs.Quotes.{is_blank};
 ghost use Rattle.sec_parts.specs.Texts.{begins_named, behind_first, ends_open, piece_before, skip_blanks, to_byte, to_either, trim, trim_end};
 
-fn is_blank_byte(byte: u8) -> bool
-    ensures { result ≡ is_blank byte }
-{
-    byte == b' ' || byte == b'\t'
-}
+use sec_text::{Margin, is_blank_byte};
 
 pub fn trim_front(text: &[u8]) -> &[u8]
     ensures { result.now ≡ skip_blanks text.now }
 {
-    let mut count = 0;
-    while count < text.len() && is_blank_byte(text[count]) {
-        count += 1;
-    }
-    text.split_at(count).1
+    sec_text::trim_start(Margin::Blanks, text)
 }
 
 pub fn trim_back(text: &[u8]) -> &[u8]
     ensures { result.now ≡ trim_end text.now }
 {
-    let mut count = text.len();
-    while count > 0 && is_blank_byte(text[count - 1]) {
-        count -= 1;
-    }
-    text.split_at(count).0
+    sec_text::trim_end(Margin::Blanks, text)
 }
 
 pub fn trim_blanks(text: &[u8]) -> &[u8]

@@ -1,4 +1,5 @@
 pub mod AddressWords
 pub mod Depths
 pub mod FirstFault
+pub mod Opens
 pub mod Told

@@ -4,6 +4,7 @@ use Rattle.std.specs.List.{slice_split}
 use Rattle.sec_text.specs.Lines.{is_line_feed, is_passed, trim}
 use Rattle.sec_read.specs.declared.faults.Cause.TheVariants as causes
 use Rattle.sec_read.specs.declared.faults.Found.{Found}
+use Rattle.sec_read.specs.declared.texts.TheConstants.{FILE_LIMIT, TEXT_LIMIT}
 use Rattle.sec_read.specs.declared.texts.Text.{Text}
 use Rattle.sec_read.specs.Faults.{fault}
 
@@ -11,12 +12,12 @@ use Rattle.sec_read.specs.Faults.{fault}
 abbrev pub Named : Type 0
 Named = List ℕ → Option (List ℕ)
 
--- A text that a directive in a file and line names by a word: of 4 MiB at most, and of 16 MiB with those before it.
+-- A text that a directive in a file and line names by a word, within the limits of one text and of all.
 abbrev pub admitted : List ℕ → ℕ → List ℕ → Option (List ℕ) → ℕ → Result Text Found
 admitted file line word None total = fault file line causes.NoFile word
 admitted file line word (Some content) total =
-    if nat_lt 4194304 (length content) then fault file line causes.TooLong word
-    else (if nat_lt 16777216 (total + length content) then fault file line causes.TooLong word
+    if nat_lt FILE_LIMIT (length content) then fault file line causes.TooLong word
+    else (if nat_lt TEXT_LIMIT (total + length content) then fault file line causes.TooLong word
     else Ok (record { content = content; total = total + length content }))
 
 -- each line, without blanks and CR around it, that is not empty and does not begin with #

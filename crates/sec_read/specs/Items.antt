@@ -5,6 +5,7 @@ use Rattle.std.specs.Ordering.{nat_cmp}
 use Rattle.std.specs.List.{count_by, list_any}
 use Rattle.sec_ast.specs.declared.Item.{Item}
 use Rattle.sec_ast.specs.declared.Item.TheVariants as items
+use Rattle.sec_read.specs.declared.items.TheConstants.{RULE_LIMIT}
 
 abbrev pub is_rule : Item → Bool
 is_rule (items.Rule rule) = true
@@ -20,7 +21,7 @@ has_id id list = list_any (is_rule_with id) list
 
 -- no further rule has room
 abbrev pub is_full : List Item → Bool
-is_full list = nat_le 20000 (count_by is_rule list)
+is_full list = nat_le RULE_LIMIT (count_by is_rule list)
 
 -- what lies beside the items: the set of their rules' identifiers, and how many rules there are, up to the end of u32
 pub record Indexes (ids : BTreeSet ℕ) (rules : ℕ) (list : List Item) : Type 0 where

@@ -12,3 +12,4 @@ pub mod Links
 pub mod Steps
 pub mod Listing
 pub mod Reached
+pub mod Places

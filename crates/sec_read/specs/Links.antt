@@ -16,6 +16,7 @@ use Rattle.sec_parts.specs.Targets.{targets_of}
 use Rattle.sec_read.specs.declared.defaults.PhaseDefault.{PhaseDefault}
 use Rattle.sec_read.specs.declared.faults.Cause.TheVariants as causes
 use Rattle.sec_read.specs.declared.faults.Found.{Found}
+use Rattle.sec_read.specs.declared.links.TheConstants.{DEFAULT_PHASE, LINK_LIMIT}
 use Rattle.sec_read.specs.declared.links.Condition.{Condition}
 use Rattle.sec_read.specs.declared.reading.Reading.{Reading}
 use Rattle.sec_read.specs.declared.reading.Unfinished.{Unfinished}
@@ -49,9 +50,9 @@ link_of condition acts = record {
 
 -- ---- rules
 
--- phase 2 where it names none
+-- where it names none, that of the body of a request
 abbrev pub phase_of : Acts → ℕ
-phase_of acts = unwrap_or acts.phase 2
+phase_of acts = unwrap_or acts.phase DEFAULT_PHASE
 
 -- a rule by its first link; what that does not name is as the phase's defaults are
 abbrev pub rule_of : List ℕ → ℕ → ℕ → Condition → Acts → PhaseDefault → Rule
@@ -82,10 +83,10 @@ first_link file line condition (Some id) acts reading =
     else (if is_full reading.items then fault file line causes.TooLong (decimal id)
     else Ok (with_rule acts.chain line (rule_of file line id condition acts (default_at (phase_of acts) reading.defaults)) reading))
 
--- a rule has 32 links at most
+-- a rule has no more links than its limit
 abbrev pub further_link : List ℕ → ℕ → Condition → Acts → Rule → Reading → Result Reading Found
 further_link file line condition acts rule reading =
-    if nat_le 32 (length rule.links) then fault file line causes.TooLong []
+    if nat_le LINK_LIMIT (length rule.links) then fault file line causes.TooLong []
     else Ok (with_rule acts.chain line (record rule { links = rule.links ++ link_of condition acts ∷ [] }) reading)
 
 abbrev pub linked : List ℕ → ℕ → Condition → Acts → Option Unfinished → Reading → Result Reading Found

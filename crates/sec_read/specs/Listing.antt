@@ -12,6 +12,7 @@ use Rattle.sec_read.specs.declared.faults.Halt.{Halt}
 use Rattle.sec_read.specs.declared.faults.Halt.TheVariants as halts
 use Rattle.sec_read.specs.declared.faults.Kind.{Kind}
 use Rattle.sec_read.specs.declared.faults.Kind.TheVariants as kinds
+use Rattle.sec_read.specs.declared.files.TheConstants.{DEPTH_LIMIT}
 use Rattle.sec_read.specs.declared.reading.Reading.{Reading}
 use Rattle.sec_read.specs.declared.texts.Text.{Text}
 use Rattle.sec_read.specs.Defaults.{first_defaults}
@@ -68,10 +69,10 @@ included files (suc depth) = λ file line word reading.
 abbrev pub opened : Named → ℕ → Opener
 opened files depth = guarded (included files depth)
 
--- a handed-in file; those that it includes have depths from 1 to 8
+-- a handed-in file; those that it includes have depths from 1 on
 abbrev pub handed_in : Named → List ℕ → Reading → Result Reading Found
 handed_in files name reading =
-    opened_text name 0 [] name (files name) reading >>= λ found. lines_from files (opened files 8) name found.0 found.1
+    opened_text name 0 [] name (files name) reading >>= λ found. lines_from files (opened files DEPTH_LIMIT) name found.0 found.1
 
 -- one after the other
 abbrev pub all_handed_in : Named → List (List ℕ) → Reading → Result Reading Found
@@ -113,5 +114,5 @@ IsListing files names (Err first) = IsFirstFault (listing files names) first fir
 -- what a caller is told of a stop
 abbrev pub IsToldFault : Fault → Halt → Type 0
 IsToldFault told (halts.Fault found) = told ≡ fault_of found
-IsToldFault told halts.NoMemory = told.kind ≡ kinds.NoMemory
+IsToldFault told halts.NoMemory = told ≡ record { file = []; line = 0; kind = kinds.NoMemory; word = [] }
 IsToldFault told (halts.Unread spot) = told ≡ record { file = spot.file; line = spot.line; kind = kinds.ReadFault; word = spot.word }

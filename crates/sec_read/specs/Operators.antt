@@ -1,9 +1,6 @@
 -- The operator of a rule, with the words that it takes from a file, and with addresses that are some.
-use Rattle.std.specs.Prelude.{ℕ, Bool, true, false, ◌&&◌, ◌||◌, not, nat_le, bytes_eq, decimal, find, is_some, List, ◌∷◌, length, take, drop, Option, Some, None, Result, Ok, if◌then◌else◌}
-use Rattle.std.specs.List.{list_any, range_with_len}
-use Rattle.std.specs.declared.net.ip_addr.IpAddr.{IpAddr}
-use Rattle.ip_set.specs.Blocks.{width}
-use Rattle.ip_set.specs.Membership.{ip_of}
+use Rattle.std.specs.Prelude.{ℕ, Bool, true, false, not, find, is_some, List, Option, Some, None, Result, Ok, if◌then◌else◌}
+use Rattle.ip_set.specs.Membership.{block_of}
 use Rattle.sec_ast.specs.declared.OpKind.{OpKind}
 use Rattle.sec_ast.specs.declared.OpKind.TheVariants as kinds
 use Rattle.sec_parts.specs.declared.faults.Bad.{Bad}
@@ -18,18 +15,9 @@ use Rattle.sec_read.specs.FileWords.{Named, admitted, words_in}
 
 -- ---- words that name addresses
 
-abbrev pub has_bits : Option IpAddr → ℕ → Bool
-has_bits None bits = false
-has_bits (Some address) bits = nat_le bits (width address)
-
--- the first bytes, so many, are an address, and behind them stand / and this number, which is at most its width
-unfoldable pub is_cut_at : List ℕ → ℕ → ℕ → Bool
-is_cut_at word count bits = bytes_eq (drop count word) (47 ∷ decimal bits) && has_bits (ip_of (take count word)) bits
-
--- an address, or a block: an address, / and a number of at most 32, or 128 for version 6
-unfoldable pub is_address_word : List ℕ → Bool
-is_address_word word =
-    is_some (ip_of word) || list_any (λ count. list_any (is_cut_at word count) (range_with_len 0 129)) (range_with_len 0 (length word))
+-- an address or a block of addresses
+abbrev pub is_address_word : List ℕ → Bool
+is_address_word word = is_some (block_of word)
 
 -- ---- what an operator is to have
 

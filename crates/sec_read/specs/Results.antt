@@ -1,8 +1,9 @@
 -- What a call answers, against what reading gives: a value or the first fault, unless memory ran out.
-use Rattle.std.specs.Prelude.{◌≡◌, ℕ, Bool, true, false, List, Result, Ok, Err}
+use Rattle.std.specs.Prelude.{◌≡◌, ℕ, Bool, true, false, List, Option, Some, Result, Ok, Err}
 use Rattle.sec_read.specs.declared.faults.Cause.{Cause}
 use Rattle.sec_read.specs.declared.faults.Found.{Found}
 use Rattle.sec_read.specs.declared.faults.Halt.{Halt}
+use Rattle.sec_read.specs.declared.faults.Spot.{Spot}
 use Rattle.sec_read.specs.declared.faults.Halt.TheVariants as halts
 
 -- ---- calls that read no file
@@ -45,8 +46,12 @@ IsUnreadAt halts.NoMemory file line word = Unit {0}
 IsUnreadAt (halts.Unread spot) file line word = spot ≡ record { file = file; line = line; word = word }
 IsUnreadAt (halts.Fault found) file line word = ⊥
 
--- where a read failed it was of that file
-abbrev pub IsPlacedAt : Halt → List ℕ → ℕ → List ℕ → Type 0
-IsPlacedAt halts.NoMemory file line word = Unit {0}
-IsPlacedAt (halts.Unread spot) file line word = spot ≡ record { file = file; line = line; word = word }
-IsPlacedAt (halts.Fault found) file line word = Unit {0}
+-- where a read failed, this holds of its place
+abbrev pub WhereUnread : Halt → (Spot → Type 0) → Type 0
+WhereUnread halts.NoMemory holds = Unit {0}
+WhereUnread (halts.Unread spot) holds = holds spot
+WhereUnread (halts.Fault found) holds = Unit {0}
+
+-- the place of a file that a directive in this file and line names by this word, if it names one
+abbrev pub IsSpot : List ℕ → ℕ → Option (List ℕ) → Spot → Type 0
+IsSpot file line named spot = (named ≡ Some spot.word) × (spot.file ≡ file) × (spot.line ≡ line)

@@ -1,12 +1,13 @@
-ghost use Rattle.std.specs.Prelude.{◌≡◌, ◌≤◌, ◌*◌, ◌+◌, [], ◌∷◌, ◌++◌, Err, IfErr, IfSome, List, drop, true, ℕ};
+ghost use Rattle.std.specs.Prelude.{◌≡◌, ◌≤◌, ◌*◌, ◌+◌, [], ◌∷◌, ◌++◌, Err, IfErr, IfSome, List, Some, drop, true, ℕ};
 ghost use Rattle.waf_io.specs.Counts.{Rose};
 ghost use Rattle.sec_text.specs.declared.line.Line.{Line as ReadLine};
 ghost use Rattle.sec_read.specs.declared.faults.Found.{Found as FirstFault};
 ghost use Rattle.sec_read.specs.declared.reading.Reading.{Reading as ReadSoFar};
 ghost use Rattle.sec_read.specs.FileWords.{Named};
-ghost use Rattle.sec_read.specs.Listing.{IsListing, Opener, all_handed_in, effective, handed_in, line_step, lines_from, listing, opened, opened_text};
+ghost use Rattle.sec_read.specs.Listing.{IsListing, Opener, all_handed_in, effective, handed_in, line_step, lines_from, listing, nothing_read, opened, opened_text};
 ghost use Rattle.sec_read.specs.Reached.{Reaches, ReachesFiles};
-ghost use Rattle.sec_read.specs.Results.{Answers, Tells, is_unread};
+ghost use Rattle.sec_read.specs.Places.{AllOpen, HandedInOpens, IncludeOpens, IsPlaceOf, LineOpens, LinesOpen, nowhere};
+ghost use Rattle.sec_read.specs.Results.{Answers, IsSpot, Tells, WhereUnread, is_unread};
 
 use crate::at::{At, lines_of_text, words_of_line};
 use crate::faults::{Cause, Fault, Halt, Kind};
@@ -20,6 +21,7 @@ use std::alloc::Global;
 use waf_io::Files;
 use waf_plain::{Bytes, Seq};
 
+// How deep a file may stand below the one that was handed in.
 const DEPTH_LIMIT: u8 = 8;
 
 // The lines of the text that a word in a line names.
@@ -34,7 +36,10 @@ fn open_text<F: Files>(
     ensures same { F.content files.new ≡ F.content files.old }
     ensures later { F.faults files.old ≤ F.faults files.new }
     ensures cause { IfErr result (λ halt. is_unread halt ≡ true → Rose (F.faults files.old) (F.faults files.new)) }
-    ensures told { IfSome (F.content files.old) (λ told. Tells (λ lines. (lines, reading.new)) result (opened_text at.entry.file.now at.entry.line word.now name.now (told name.now) reading.old)) }
+    ensures place { IfErr result (λ halt. WhereUnread halt (IsSpot at.entry.file.now at.entry.line (Some word.now))) }
+    ensures told { IfSome (F.content files.old) (λ told.
+        Tells (λ lines. (lines, reading.new)) result
+        (opened_text at.entry.file.now at.entry.line word.now name.now (told name.now) reading.old)) }
 {
     let text = fetch(alloc, files, at, word, name, reading.total)?;
     let lines = lines_of_text(alloc, name, text.content.as_slice())?;
@@ -55,7 +60,11 @@ fn include<F: Files>(
     ensures same { F.content files.new ≡ F.content files.old }
     ensures later { F.faults files.old ≤ F.faults files.new }
     ensures cause { IfErr result (λ halt. is_unread halt ≡ true → Rose (F.faults files.old) (F.faults files.new)) }
-    ensures told { IfSome (F.content files.old) (λ told. Tells (λ _. reading.new) result (opened told depth at.entry.file.now at.entry.line word.now reading.old)) }
+    ensures place { IfSome (F.content files.old) (λ told.
+        IfErr result (λ halt. WhereUnread halt
+        (IncludeOpens told depth at.entry.file.now at.entry.line word.now reading.old))) }
+    ensures told { IfSome (F.content files.old) (λ told.
+        Tells (λ _. reading.new) result (opened told depth at.entry.file.now at.entry.line word.now reading.old)) }
 {
     if has_wildcard_byte(word) {
         return Err(at.fault(alloc, Cause::RefusedByName, word));
@@ -81,7 +90,11 @@ fn read_line<F: Files>(
     ensures same { F.content files.new ≡ F.content files.old }
     ensures later { F.faults files.old ≤ F.faults files.new }
     ensures cause { IfErr result (λ halt. is_unread halt ≡ true → Rose (F.faults files.old) (F.faults files.new)) }
-    ensures told { IfSome (F.content files.old) (λ told. Tells (λ _. reading.new) result (line_step told (opened told depth) file.now line.now reading.old)) }
+    ensures place { IfSome (F.content files.old) (λ told.
+        IfErr result (λ halt. WhereUnread halt
+        (LineOpens told (IncludeOpens told depth) file.now line.now reading.old))) }
+    ensures told { IfSome (F.content files.old) (λ told.
+        Tells (λ _. reading.new) result (line_step told (opened told depth) file.now line.now reading.old)) }
 {
     let at = At {
         file,
@@ -106,7 +119,11 @@ fn read_lines<F: Files>(
     ensures same { F.content files.new ≡ F.content files.old }
     ensures later { F.faults files.old ≤ F.faults files.new }
     ensures cause { IfErr result (λ halt. is_unread halt ≡ true → Rose (F.faults files.old) (F.faults files.new)) }
-    ensures told { IfSome (F.content files.old) (λ told. Tells (λ _. reading.new) result (lines_from told (opened told depth) file.now lines.now reading.old)) }
+    ensures place { IfSome (F.content files.old) (λ told.
+        IfErr result (λ halt. WhereUnread halt
+        (LinesOpen told (opened told depth) (IncludeOpens told depth) file.now lines.now reading.old))) }
+    ensures told { IfSome (F.content files.old) (λ told.
+        Tells (λ _. reading.new) result (lines_from told (opened told depth) file.now lines.now reading.old)) }
 {
     for line in lines {
         read_line(alloc, files, depth, file, line, reading)?;
@@ -127,7 +144,10 @@ fn read_handed_in<F: Files>(
     ensures same { F.content files.new ≡ F.content files.old }
     ensures later { F.faults files.old ≤ F.faults files.new }
     ensures cause { IfErr result (λ halt. is_unread halt ≡ true → Rose (F.faults files.old) (F.faults files.new)) }
-    ensures told { IfSome (F.content files.old) (λ told. Tells (λ _. reading.new) result (handed_in told name.now reading.old)) }
+    ensures place { IfSome (F.content files.old) (λ told.
+        IfErr result (λ halt. WhereUnread halt (HandedInOpens told name.now reading.old))) }
+    ensures told { IfSome (F.content files.old) (λ told.
+        Tells (λ _. reading.new) result (handed_in told name.now reading.old)) }
 {
     let at = At {
         file: name,
@@ -146,7 +166,10 @@ fn read_each<F: Files>(
     ensures same { F.content files.new ≡ F.content files.old }
     ensures later { F.faults files.old ≤ F.faults files.new }
     ensures cause { IfErr result (λ halt. is_unread halt ≡ true → Rose (F.faults files.old) (F.faults files.new)) }
-    ensures told { IfSome (F.content files.old) (λ told. Tells (λ _. reading.new) result (all_handed_in told names.now reading.old)) }
+    ensures place { IfSome (F.content files.old) (λ told.
+        IfErr result (λ halt. WhereUnread halt (AllOpen told names.now reading.old))) }
+    ensures told { IfSome (F.content files.old) (λ told.
+        Tells (λ _. reading.new) result (all_handed_in told names.now reading.old)) }
 {
     for name in names {
         read_handed_in(alloc, files, name.as_slice(), reading)?;
@@ -176,6 +199,8 @@ fn read_listing<F: Files>(alloc: Global, names: &[Bytes], files: &mut F) -> Resu
     ensures same { F.content files.new ≡ F.content files.old }
     ensures later { F.faults files.old ≤ F.faults files.new }
     ensures cause { IfErr result (λ halt. is_unread halt ≡ true → Rose (F.faults files.old) (F.faults files.new)) }
+    ensures place { IfSome (F.content files.old) (λ told.
+        IfErr result (λ halt. WhereUnread halt (AllOpen told names.now nothing_read))) }
     ensures told { IfSome (F.content files.old) (λ told. Tells (λ l. l) result (listing told names.now)) }
 {
     let mut reading = Reading::nothing(alloc);
@@ -188,6 +213,8 @@ fn read_one<F: Files>(alloc: Global, name: &[u8], files: &mut F) -> Result<Listi
     ensures same { F.content files.new ≡ F.content files.old }
     ensures later { F.faults files.old ≤ F.faults files.new }
     ensures cause { IfErr result (λ halt. is_unread halt ≡ true → Rose (F.faults files.old) (F.faults files.new)) }
+    ensures place { IfSome (F.content files.old) (λ told.
+        IfErr result (λ halt. WhereUnread halt (AllOpen told (name.now ∷ []) nothing_read))) }
     ensures told { IfSome (F.content files.old) (λ told. Tells (λ l. l) result (listing told (name.now ∷ []))) }
 {
     let mut reading = Reading::nothing(alloc);
@@ -203,7 +230,11 @@ pub fn read_rules<F: Files>(alloc: Global, name: &[u8], files: &mut F) -> Result
     ensures same { F.content files.new ≡ F.content files.old }
     ensures later { F.faults files.old ≤ F.faults files.new }
     ensures told { IfSome (F.content files.old) (λ told. IsListing told (name.now ∷ []) result) }
-    ensures cause { IfErr result (λ fault. fault.kind ≡ Kind.ReadFault → Rose (F.faults files.old) (F.faults files.new)) }
+    ensures cause { IfErr result (λ fault. fault.kind ≡ Kind.ReadFault
+        → Rose (F.faults files.old) (F.faults files.new)) }
+    ensures place { IfSome (F.content files.old) (λ told. IfErr result (λ fault. fault.kind ≡ Kind.ReadFault
+        → IsPlaceOf told (name.now ∷ []) fault)) }
+    ensures nowhere { IfErr result (λ fault. fault.kind ≡ Kind.NoMemory → fault ≡ nowhere) }
 {
     match read_one(alloc, name, files) {
         Ok(listing) => Ok(listing),
@@ -221,7 +252,11 @@ pub fn read_all<F: Files>(
     ensures same { F.content files.new ≡ F.content files.old }
     ensures later { F.faults files.old ≤ F.faults files.new }
     ensures told { IfSome (F.content files.old) (λ told. IsListing told names.now result) }
-    ensures cause { IfErr result (λ fault. fault.kind ≡ Kind.ReadFault → Rose (F.faults files.old) (F.faults files.new)) }
+    ensures cause { IfErr result (λ fault. fault.kind ≡ Kind.ReadFault
+        → Rose (F.faults files.old) (F.faults files.new)) }
+    ensures place { IfSome (F.content files.old) (λ told. IfErr result (λ fault. fault.kind ≡ Kind.ReadFault
+        → IsPlaceOf told names.now fault)) }
+    ensures nowhere { IfErr result (λ fault. fault.kind ≡ Kind.NoMemory → fault ≡ nowhere) }
 {
     match read_listing(alloc, names.as_slice(), files) {
         Ok(listing) => Ok(listing),
@@ -232,8 +267,12 @@ pub fn read_all<F: Files>(
 /// A fault is the first: the lines before it are read without one, and what follows it, in its file
 /// or in further files, does not matter.
 pub fn fault_is_the_first()
-    ensures line { (files : Named) (opener : Opener) (file : List ℕ) (before : List ReadLine) (line : ReadLine) (after : List ReadLine) (start mid : ReadSoFar) (fault : FirstFault)
-        → Reaches files opener file start before mid → line_step files opener file line mid ≡ Err fault → lines_from files opener file (before ++ line ∷ after) start ≡ Err fault }
-    ensures file { (files : Named) (before : List (List ℕ)) (name : List ℕ) (after : List (List ℕ)) (start mid : ReadSoFar) (fault : FirstFault)
-        → ReachesFiles files start before mid → handed_in files name mid ≡ Err fault → all_handed_in files (before ++ name ∷ after) start ≡ Err fault }
+    ensures line { (files : Named) (opener : Opener) (file : List ℕ) (before : List ReadLine) (line : ReadLine)
+        (after : List ReadLine) (start mid : ReadSoFar) (fault : FirstFault)
+        → Reaches files opener file start before mid → line_step files opener file line mid ≡ Err fault
+        → lines_from files opener file (before ++ line ∷ after) start ≡ Err fault }
+    ensures file { (files : Named) (before : List (List ℕ)) (name : List ℕ) (after : List (List ℕ))
+        (start mid : ReadSoFar) (fault : FirstFault)
+        → ReachesFiles files start before mid → handed_in files name mid ≡ Err fault
+        → all_handed_in files (before ++ name ∷ after) start ≡ Err fault }
 {}

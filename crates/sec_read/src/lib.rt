@@ -1,5 +1,12 @@
 //! Rule files as a listing: directives, the files that they name, defaults, settings and removals,
 //! or the first fault in reading order.
+//!
+//! ```text
+//! let listing = read_rules(alloc, b"/etc/yefontsila/main.conf", &mut files)?;
+//! ```
+//!
+//! What it means is `listing` of `specs/Listing.antt`; where a read may fail is `AllOpen` of
+//! `specs/Places.antt`.
 #![tactic(auto)]
 
 mod addresses;

@@ -3,7 +3,9 @@ ghost use Rattle.std.specs.Option.{option_copied};
 ghost use Rattle.sec_parts.specs.Results.{Gives};
 ghost use Rattle.waf_io.specs.Counts.{Rose};
 ghost use Rattle.sec_read.specs.Links.{acting, action_line, acts_of, always, first_link, further_link, link_of, linked, rule_line, rule_of, rule_with, stand_of, tested, with_rule};
-ghost use Rattle.sec_read.specs.Results.{Answers, IsFault, Tells, is_unread};
+ghost use Rattle.sec_parts.specs.Operators.{operator_of};
+ghost use Rattle.sec_read.specs.Places.{operator_file, rule_file};
+ghost use Rattle.sec_read.specs.Results.{Answers, IsFault, IsSpot, Tells, WhereUnread, is_unread};
 
 use crate::at::At;
 use crate::defaults::PhaseDefault;
@@ -16,7 +18,11 @@ use std::alloc::Global;
 use waf_io::Files;
 use waf_plain::{Bytes, NoMemory, Seq};
 
+// How many links a rule has at most.
 const LINK_LIMIT: u64 = 32;
+
+// The phase of a rule that names none.
+const DEFAULT_PHASE: u8 = 2;
 
 // What a link tests.
 #[derive(Drop)]
@@ -80,7 +86,7 @@ fn make_rule(
     })?;
     Ok(Rule {
         id,
-        phase: acts.phase.unwrap_or(2),
+        phase: acts.phase.unwrap_or(DEFAULT_PHASE),
         links,
         disrupt,
         status: acts.status.unwrap_or(default.status),
@@ -146,7 +152,8 @@ fn add_first_link(
     acts: Acts,
     reading: &mut Reading,
 ) -> Result<(), Halt>
-    ensures { Answers (λ _. reading.new) result (first_link at.entry.file.now at.entry.line condition acts.id acts reading.old) }
+    ensures { Answers (λ _. reading.new) result
+        (first_link at.entry.file.now at.entry.line condition acts.id acts reading.old) }
 {
     let Some(id) = acts.id else {
         return Err(at.fault(alloc, Cause::NoId, b""));
@@ -158,7 +165,7 @@ fn add_first_link(
         return Err(at_id(alloc, at, Cause::TooLong, id));
     }
     let chain = acts.chain;
-    let default = reading.defaults.of(acts.phase.unwrap_or(2));
+    let default = reading.defaults.of(acts.phase.unwrap_or(DEFAULT_PHASE));
     let rule = make_rule(alloc, at, id, condition, acts, default)?;
     add_rule(alloc, chain, at.line, rule, reading)?;
     Ok(())
@@ -172,7 +179,8 @@ fn add_further_link(
     rule: Rule,
     reading: &mut Reading,
 ) -> Result<(), Halt>
-    ensures { Answers (λ _. reading.new) result (further_link at.entry.file.now at.entry.line condition acts rule reading.old) }
+    ensures { Answers (λ _. reading.new) result
+        (further_link at.entry.file.now at.entry.line condition acts rule reading.old) }
 {
     if rule.links.len() >= LINK_LIMIT {
         return Err(at.fault(alloc, Cause::TooLong, b""));
@@ -191,7 +199,8 @@ fn add_link(
     acts: Acts,
     reading: &mut Reading,
 ) -> Result<(), Halt>
-    ensures { Answers (λ _. reading.new) result (linked at.entry.file.now at.entry.line condition acts reading.old.unfinished reading.old) }
+    ensures { Answers (λ _. reading.new) result
+        (linked at.entry.file.now at.entry.line condition acts reading.old.unfinished reading.old) }
 {
     match reading.unfinished.take() {
         None => add_first_link(alloc, at, condition, acts, reading),
@@ -220,7 +229,8 @@ fn read_acting(
     actions: Option<&[u8]>,
     reading: &mut Reading,
 ) -> Result<(), Halt>
-    ensures { Answers (λ _. reading.new) result (acting at.entry.file.now at.entry.line targets (option_copied actions.entry) reading.old stated) }
+    ensures { Answers (λ _. reading.new) result
+        (acting at.entry.file.now at.entry.line targets (option_copied actions.entry) reading.old stated) }
 {
     let (operator, total) = stated;
     let acts = at.placed(alloc, read_acts(alloc, stand_now(reading), actions))?;
@@ -241,7 +251,12 @@ fn read_rule<F: Files>(
     ensures same { F.content files.new ≡ F.content files.old }
     ensures later { F.faults files.old ≤ F.faults files.new }
     ensures cause { IfErr result (λ halt. is_unread halt ≡ true → Rose (F.faults files.old) (F.faults files.new)) }
-    ensures told { IfSome (F.content files.old) (λ told. Tells (λ _. reading.new) result (rule_with told at.entry.file.now at.entry.line targets.now operator.now (option_copied actions.entry) reading.old)) }
+    ensures place { IfErr result (λ halt.
+        WhereUnread halt (IsSpot at.entry.file.now at.entry.line (operator_file (operator_of operator.now)))) }
+    ensures told { IfSome (F.content files.old) (λ told.
+        Tells (λ _. reading.new) result
+        (rule_with told at.entry.file.now at.entry.line targets.now operator.now
+        (option_copied actions.entry) reading.old)) }
 {
     let targets = at.placed(alloc, read_targets(alloc, targets))?;
     let stated = read_operator_at(alloc, files, at, operator, reading.total)?;
@@ -271,7 +286,11 @@ pub fn read_rule_line<F: Files>(
     ensures same { F.content files.new ≡ F.content files.old }
     ensures later { F.faults files.old ≤ F.faults files.new }
     ensures cause { IfErr result (λ halt. is_unread halt ≡ true → Rose (F.faults files.old) (F.faults files.new)) }
-    ensures told { IfSome (F.content files.old) (λ told. Tells (λ _. reading.new) result (rule_line told at.entry.file.now at.entry.line name.now given.now reading.old)) }
+    ensures place { IfErr result (λ halt.
+        WhereUnread halt (IsSpot at.entry.file.now at.entry.line (rule_file given.now))) }
+    ensures told { IfSome (F.content files.old) (λ told.
+        Tells (λ _. reading.new) result
+        (rule_line told at.entry.file.now at.entry.line name.now given.now reading.old)) }
 {
     match given {
         [targets, operator] => {
@@ -311,7 +330,8 @@ pub fn read_action_line(
     given: &[Bytes],
     reading: &mut Reading,
 ) -> Result<(), Halt>
-    ensures { Answers (λ _. reading.new) result (action_line at.entry.file.now at.entry.line name.now given.now reading.old) }
+    ensures { Answers (λ _. reading.new) result
+        (action_line at.entry.file.now at.entry.line name.now given.now reading.old) }
 {
     match given {
         [actions] => {

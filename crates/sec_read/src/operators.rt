@@ -2,7 +2,9 @@ ghost use Rattle.std.specs.Prelude.{◌≡◌, ◌≤◌, IfErr, IfSome, true};
 ghost use Rattle.sec_parts.specs.Results.{Gives};
 ghost use Rattle.waf_io.specs.Counts.{Rose};
 ghost use Rattle.sec_read.specs.Operators.{checked, filled, operator_at, with_words};
-ghost use Rattle.sec_read.specs.Results.{Answers, Tells, is_unread};
+ghost use Rattle.sec_parts.specs.Operators.{operator_of};
+ghost use Rattle.sec_read.specs.Places.{operator_file};
+ghost use Rattle.sec_read.specs.Results.{Answers, IsSpot, Tells, WhereUnread, is_unread};
 
 use crate::addresses::find_no_address;
 use crate::at::At;
@@ -60,7 +62,9 @@ fn fill<F: Files>(
     ensures same { F.content files.new ≡ F.content files.old }
     ensures later { F.faults files.old ≤ F.faults files.new }
     ensures cause { IfErr result (λ halt. is_unread halt ≡ true → Rose (F.faults files.old) (F.faults files.new)) }
-    ensures told { IfSome (F.content files.old) (λ told. Tells (λ x. x) result (filled told at.entry.file.now at.entry.line operator.file operator total)) }
+    ensures place { IfErr result (λ halt. WhereUnread halt (IsSpot at.entry.file.now at.entry.line operator.file)) }
+    ensures told { IfSome (F.content files.old) (λ told.
+        Tells (λ x. x) result (filled told at.entry.file.now at.entry.line operator.file operator total)) }
 {
     let Some(word) = &operator.file else {
         return Ok((operator, total));
@@ -86,7 +90,10 @@ pub fn read_operator_at<F: Files>(
     ensures same { F.content files.new ≡ F.content files.old }
     ensures later { F.faults files.old ≤ F.faults files.new }
     ensures cause { IfErr result (λ halt. is_unread halt ≡ true → Rose (F.faults files.old) (F.faults files.new)) }
-    ensures told { IfSome (F.content files.old) (λ told. Tells (λ x. x) result (operator_at told at.entry.file.now at.entry.line word.now total)) }
+    ensures place { IfErr result (λ halt.
+        WhereUnread halt (IsSpot at.entry.file.now at.entry.line (operator_file (operator_of word.now)))) }
+    ensures told { IfSome (F.content files.old) (λ told.
+        Tells (λ x. x) result (operator_at told at.entry.file.now at.entry.line word.now total)) }
 {
     let operator = at.placed(alloc, read_operator(alloc, word))?;
     let (operator, total) = fill(alloc, files, at, operator, total)?;

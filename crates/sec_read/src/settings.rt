@@ -4,6 +4,11 @@ ghost use Rattle.sec_read.specs.Settings.{first_settings, rejection_named, with_
 use sec_ast::Engine;
 use sec_parts::{read_number, read_switch};
 
+// How many bytes of a request's body are read where no directive says it, and at most.
+const FIRST_REQUEST_LIMIT: u64 = 131_072;
+
+const MAX_REQUEST_LIMIT: u32 = 1_073_741_824;
+
 // A directive that sets something for the whole listing.
 #[derive(Clone, Copy)]
 pub enum Setting {
@@ -32,7 +37,7 @@ impl Settings {
         Settings {
             engine: Engine::On,
             request_body: true,
-            request_limit: 131_072,
+            request_limit: FIRST_REQUEST_LIMIT,
             limit_reject: true,
             response_body: false,
         }
@@ -47,7 +52,7 @@ impl Settings {
             Setting::Engine => settings.engine = Engine::named(word)?,
             Setting::RequestBodyAccess => settings.request_body = read_switch(word)?,
             Setting::RequestBodyLimit => {
-                settings.request_limit = u64::from(read_number(word, 1, 1_073_741_824)?)
+                settings.request_limit = u64::from(read_number(word, 1, MAX_REQUEST_LIMIT)?)
             }
             Setting::RequestBodyLimitAction => settings.limit_reject = read_rejection(word)?,
             Setting::ResponseBodyAccess => settings.response_body = read_switch(word)?,

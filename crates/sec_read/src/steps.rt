@@ -1,6 +1,7 @@
 ghost use Rattle.std.specs.Prelude.{◌≡◌, ◌≤◌, IfErr, IfSome, true};
 ghost use Rattle.waf_io.specs.Counts.{Rose};
-ghost use Rattle.sec_read.specs.Results.{Answers, Tells, is_unread};
+ghost use Rattle.sec_read.specs.Places.{named_file};
+ghost use Rattle.sec_read.specs.Results.{Answers, IsSpot, Tells, WhereUnread, is_unread};
 ghost use Rattle.sec_read.specs.Steps.{apart, default_line, directive, ids_line, include_line, marker_line, on, setting_line, tag_line, with_defaults};
 
 use crate::at::At;
@@ -24,7 +25,8 @@ fn read_marker_line(
     given: &[Bytes],
     reading: &mut Reading,
 ) -> Result<(), Halt>
-    ensures { Answers (λ _. reading.new) result (marker_line at.entry.file.now at.entry.line name.now given.now reading.old) }
+    ensures { Answers (λ _. reading.new) result
+        (marker_line at.entry.file.now at.entry.line name.now given.now reading.old) }
 {
     match given {
         [label] => {
@@ -44,7 +46,8 @@ fn set_default(
     acts: Acts,
     reading: &mut Reading,
 ) -> Result<(), Halt>
-    ensures { Answers (λ _. reading.new) result (with_defaults at.entry.file.now at.entry.line text.now acts.phase acts reading.old) }
+    ensures { Answers (λ _. reading.new) result
+        (with_defaults at.entry.file.now at.entry.line text.now acts.phase acts reading.old) }
 {
     match acts.phase {
         None => Err(at.fault(alloc, Cause::BadWord, text)),
@@ -62,7 +65,8 @@ fn read_default_line(
     given: &[Bytes],
     reading: &mut Reading,
 ) -> Result<(), Halt>
-    ensures { Answers (λ _. reading.new) result (default_line at.entry.file.now at.entry.line name.now given.now reading.old) }
+    ensures { Answers (λ _. reading.new) result
+        (default_line at.entry.file.now at.entry.line name.now given.now reading.old) }
 {
     match given {
         [text] => {
@@ -81,7 +85,8 @@ fn read_ids_line(
     given: &[Bytes],
     reading: &mut Reading,
 ) -> Result<(), Halt>
-    ensures { Answers (λ _. reading.new) result (ids_line at.entry.file.now at.entry.line name.now given.now reading.old) }
+    ensures { Answers (λ _. reading.new) result
+        (ids_line at.entry.file.now at.entry.line name.now given.now reading.old) }
 {
     match given {
         [] => Err(at.fault(alloc, Cause::BadWord, name)),
@@ -100,7 +105,8 @@ fn read_tag_line(
     given: &[Bytes],
     reading: &mut Reading,
 ) -> Result<(), Halt>
-    ensures { Answers (λ _. reading.new) result (tag_line at.entry.file.now at.entry.line name.now given.now reading.old) }
+    ensures { Answers (λ _. reading.new) result
+        (tag_line at.entry.file.now at.entry.line name.now given.now reading.old) }
 {
     match given {
         [tag] => {
@@ -122,7 +128,8 @@ fn read_setting_line(
     given: &[Bytes],
     reading: &mut Reading,
 ) -> Result<(), Halt>
-    ensures { Answers (λ _. reading.new) result (setting_line at.entry.file.now at.entry.line name.now setting given.now reading.old) }
+    ensures { Answers (λ _. reading.new) result
+        (setting_line at.entry.file.now at.entry.line name.now setting given.now reading.old) }
 {
     match given {
         [word] => {
@@ -144,7 +151,8 @@ fn read_include_line(
     given: &[Bytes],
     reading: &mut Reading,
 ) -> Result<Option<Bytes>, Halt>
-    ensures { Answers (λ word. (word, reading.new)) result (include_line at.entry.file.now at.entry.line name.now given.now reading.old) }
+    ensures { Answers (λ word.
+        (word, reading.new)) result (include_line at.entry.file.now at.entry.line name.now given.now reading.old) }
 {
     match given {
         [word] => Ok(Some(Bytes::copy(alloc, word.as_slice())?)),
@@ -161,7 +169,8 @@ fn read_apart(
     reading: &mut Reading,
     directive: Directive,
 ) -> Result<Option<Bytes>, Halt>
-    ensures { Answers (λ word. (word, reading.new)) result (apart at.entry.file.now at.entry.line name.now given.now reading.old directive) }
+    ensures { Answers (λ word.
+        (word, reading.new)) result (apart at.entry.file.now at.entry.line name.now given.now reading.old directive) }
 {
     match directive {
         Directive::SecMarker => {
@@ -201,7 +210,11 @@ pub fn read_directive<F: Files>(
     ensures same { F.content files.new ≡ F.content files.old }
     ensures later { F.faults files.old ≤ F.faults files.new }
     ensures cause { IfErr result (λ halt. is_unread halt ≡ true → Rose (F.faults files.old) (F.faults files.new)) }
-    ensures told { IfSome (F.content files.old) (λ told. Tells (λ word. (word, reading.new)) result (directive told at.entry.file.now at.entry.line words.now reading.old)) }
+    ensures place { IfErr result (λ halt.
+        WhereUnread halt (IsSpot at.entry.file.now at.entry.line (named_file words.now))) }
+    ensures told { IfSome (F.content files.old) (λ told.
+        Tells (λ word. (word, reading.new)) result
+        (directive told at.entry.file.now at.entry.line words.now reading.old)) }
 {
     let [name, given @ ..] = words else {
         return Ok(None);

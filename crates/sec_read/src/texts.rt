@@ -1,9 +1,9 @@
-ghost use Rattle.std.specs.Prelude.{◌≡◌, ◌≤◌, IfErr, IfOk, IfSome, List, ℕ, length, map, true};
+ghost use Rattle.std.specs.Prelude.{◌≡◌, ◌≤◌, IfErr, IfOk, IfSome, List, Some, ℕ, length, map, true};
 ghost use Rattle.std.specs.List.{slice_split};
 ghost use Rattle.sec_text.specs.Lines.{is_line_feed};
 ghost use Rattle.waf_io.specs.Counts.{Rose};
 ghost use Rattle.sec_read.specs.FileWords.{admitted, words_among, words_in};
-ghost use Rattle.sec_read.specs.Results.{IsPlacedAt, Tells, is_unread};
+ghost use Rattle.sec_read.specs.Results.{IsSpot, Tells, WhereUnread, is_unread};
 
 use crate::at::At;
 use crate::faults::{Cause, Halt};
@@ -12,6 +12,7 @@ use std::alloc::Global;
 use waf_io::{FileAnswer, Files};
 use waf_plain::{Bytes, NoMemory, Seq};
 
+// How many bytes a file has at most, and all texts together.
 const FILE_LIMIT: u64 = 4_194_304;
 
 const TEXT_LIMIT: u64 = 16_777_216;
@@ -35,9 +36,10 @@ pub fn fetch<F: Files>(
     ensures same { F.content files.new ≡ F.content files.old }
     ensures later { F.faults files.old ≤ F.faults files.new }
     ensures cause { IfErr result (λ halt. is_unread halt ≡ true → Rose (F.faults files.old) (F.faults files.new)) }
-    ensures place { IfErr result (λ halt. IsPlacedAt halt at.entry.file.now at.entry.line word.now) }
-    ensures within { IfOk result (λ text. length text.content ≤ 4194304) }
-    ensures told { IfSome (F.content files.old) (λ told. Tells (λ text. text) result (admitted at.entry.file.now at.entry.line word.now (told name.now) total)) }
+    ensures place { IfErr result (λ halt. WhereUnread halt (IsSpot at.entry.file.now at.entry.line (Some word.now))) }
+    ensures within { IfOk result (λ text. length text.content ≤ FILE_LIMIT) }
+    ensures told { IfSome (F.content files.old) (λ told.
+        Tells (λ text. text) result (admitted at.entry.file.now at.entry.line word.now (told name.now) total)) }
 {
     let content = match files.read_file(alloc, name, FILE_LIMIT) {
         FileAnswer::Content(content) => content,

@@ -6,6 +6,7 @@ use Rattle.std.specs.Str.Lossy.{utf8_valid_len}
 use Rattle.sec_text.specs.declared.line.Line.{Line}
 use Rattle.sec_text.specs.declared.faults.TextFault.{TextFault}
 use Rattle.sec_text.specs.declared.faults.TextFault.TheVariants as faults
+use Rattle.sec_text.specs.declared.lines.TheConstants.{LINE_LIMIT}
 use Rattle.sec_text.specs.Quotes.{is_blank}
 
 -- ---- physical lines: parted by LF, trimmed, with their numbers from 1 on
@@ -67,7 +68,7 @@ logical text = lines_in false (physical text)
 -- ---- the answer
 
 abbrev pub is_too_long : Line → Bool
-is_too_long line = nat_lt 65536 (length line.text)
+is_too_long line = nat_lt LINE_LIMIT (length line.text)
 
 abbrev pub first_long : List Line → Option Line
 first_long lines = find is_too_long lines
@@ -81,7 +82,8 @@ abbrev pub fault_line : List ℕ → ℕ
 fault_line text = count_by is_line_feed (take (utf8_valid_len text) text) + 1
 
 unfoldable pub lines_of : List ℕ → Result (List Line) TextFault
-lines_of text = if is_utf8 text then measured (first_long (logical text)) (logical text) else Err (faults.NotText (fault_line text))
+lines_of text = if is_utf8 text then measured (first_long (logical text)) (logical text)
+    else Err (faults.NotText (fault_line text))
 
 -- What a call answers, but for want of memory.
 abbrev pub AnswersLines : List ℕ → Result (List Line) TextFault → Type 0

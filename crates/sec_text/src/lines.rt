@@ -1,51 +1,28 @@
-ghost use Rattle.std.specs.Prelude.{◌≡◌, ◌+◌, ◌-◌, ◌<◌, ◌≤◌, ◌^◌, ◌∷◌, ◌++◌, [], List, ℕ, true, false, IfSome, map, length, take, drop, OnOk, IfOk, option_copied, Option, Some, None, MatchOption};
-ghost use Rattle.std.specs.List.{prefix_len, suffix_len, position_or_len, slice_split, count_by, AllByRecursion};
+ghost use Rattle.std.specs.Prelude.{◌≡◌, ◌+◌, ◌<◌, ◌≤◌, ◌^◌, ◌∷◌, ◌++◌, [], List, ℕ, true, false, IfSome, map, length, take, drop, OnOk, IfOk, option_copied, Option, Some, None, MatchOption};
+ghost use Rattle.std.specs.List.{position_or_len, slice_split, count_by, AllByRecursion};
 ghost use Rattle.sec_text.specs.WrittenLines.{IsWhole, written_lines, numbered};
 ghost use Rattle.std.specs.Option.{option_map};
 ghost use Rattle.std.specs.Str.{is_utf8};
 ghost use Rattle.std.specs.Str.Lossy.{utf8_valid_len};
 ghost use Rattle.sec_text.specs.Quotes.{is_blank};
-ghost use Rattle.sec_text.specs.Lines.{is_trimmed, trim_end, trim, is_line_feed, goes_on, joined, text_here, is_passed, before, lines_in, logical, first_long, fault_line, AnswersLines};
+ghost use Rattle.sec_text.specs.Lines.{trim, is_line_feed, goes_on, joined, text_here, is_passed, before, lines_in, logical, first_long, fault_line, AnswersLines};
 ghost use Rattle.sec_text.specs.Joining.{made, parts};
 
 use crate::faults::TextFault;
 use crate::line::Line;
+use crate::margins::{Margin, trim_end, trim_start};
 use std::alloc::Global;
 use waf_plain::{Bytes, NoMemory, Seq};
 
+// How many bytes a logical line has at most.
 const LINE_LIMIT: usize = 65536;
-
-fn is_trimmed_byte(byte: u8) -> bool
-    ensures { result ≡ is_trimmed byte }
-{
-    byte == b' ' || byte == b'\t' || byte == b'\r'
-}
-
-fn trim_front(text: &[u8]) -> &[u8]
-    ensures { result.now ≡ drop (prefix_len is_trimmed text.now) text.now }
-{
-    let mut count = 0;
-    while count < text.len() && is_trimmed_byte(text[count]) {
-        count += 1;
-    }
-    text.split_at(count).1
-}
-
-fn trim_back(text: &[u8]) -> &[u8]
-    ensures { result.now ≡ trim_end text.now }
-{
-    let mut count = text.len();
-    while count > 0 && is_trimmed_byte(text[count - 1]) {
-        count -= 1;
-    }
-    text.split_at(count).0
-}
 
 /// The text without the spaces, tabs and carriage returns at both ends.
 pub fn trimmed(text: &[u8]) -> &[u8]
     ensures { result.now ≡ trim text.now }
 {
-    trim_back(trim_front(text))
+    let text = trim_start(Margin::BlanksAndReturns, text);
+    trim_end(Margin::BlanksAndReturns, text)
 }
 
 fn ends_open(text: &[u8]) -> bool
@@ -110,7 +87,9 @@ fn with_whole(lines: Seq<Line>, line: Line) -> Result<Seq<Line>, NoMemory>
 
 // The open line takes a physical line.
 fn extended(lines: Seq<Line>, line: Line, text: &[u8]) -> Result<Joining, NoMemory>
-    ensures { IfOk result (λ j. (ps : List (ℕ × List ℕ)) → made j ps ≡ lines ++ before line.number (line.text ++ joined text.now (text_here ps)) (lines_in (goes_on text.now) ps)) }
+    ensures { IfOk result (λ j. (ps : List (ℕ × List ℕ))
+        → made j ps ≡ lines ++ before line.number (line.text ++ joined text.now (text_here ps))
+        (lines_in (goes_on text.now) ps)) }
 {
     let mut line = line;
     if ends_open(text) {
@@ -179,7 +158,8 @@ fn count_line_feeds(text: &[u8]) -> usize
 // The line of the first byte that begins no character.
 fn find_bad_byte(text: &[u8]) -> Option<u32>
     requires { length text.now < 2 ^ 31 }
-    ensures { MatchOption result (is_utf8 text.now ≡ true) (λ line. (is_utf8 text.now ≡ false) × (line ≡ fault_line text.now)) }
+    ensures { MatchOption result (is_utf8 text.now ≡ true) (λ line. (is_utf8 text.now ≡ false)
+        × (line ≡ fault_line text.now)) }
 {
     match std::str::from_utf8(text) {
         Ok(_) => None,
@@ -222,5 +202,6 @@ pub fn lines_of(alloc: Global, text: &[u8]) -> Result<Seq<Line>, TextFault>
 
 /// Lines written one after the other are read back, numbered from 1.
 pub fn written_lines_are_read()
-    ensures { (texts : List (List ℕ)) → AllByRecursion IsWhole texts → logical (written_lines texts) ≡ numbered 1 texts }
+    ensures { (texts : List (List ℕ)) → AllByRecursion IsWhole texts
+        → logical (written_lines texts) ≡ numbered 1 texts }
 {}

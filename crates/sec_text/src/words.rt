@@ -8,6 +8,7 @@ ghost use Rattle.sec_text.specs.Words.{Gives, is_plain, is_apart, closed, plain,
 
 use crate::faults::WordFault;
 use crate::line::Line;
+use crate::margins::{Margin, is_blank_byte, trim_start};
 use crate::quotes::read_quoted;
 use std::alloc::Global;
 use waf_plain::{Bytes, Seq};
@@ -15,24 +16,6 @@ use waf_plain::{Bytes, Seq};
 const QUOTE: u8 = b'"';
 
 const BACKSLASH: u8 = b'\\';
-
-fn is_blank_byte(byte: u8) -> bool
-    ensures { result ≡ is_blank byte }
-{
-    byte == b' ' || byte == b'\t'
-}
-
-// How many blanks stand at the front.
-fn count_blanks(bytes: &[u8]) -> usize
-    ensures count { result ≡ prefix_len is_blank bytes.now }
-    ensures within { result ≤ length bytes.now }
-{
-    let mut count = 0;
-    while count < bytes.len() && is_blank_byte(bytes[count]) {
-        count += 1;
-    }
-    count
-}
 
 // How many bytes that are no blanks stand at the front.
 fn count_others(bytes: &[u8]) -> usize
@@ -97,7 +80,7 @@ fn read_closed(alloc: Global, bytes: &[u8]) -> Result<Option<(Bytes, &[u8])>, Wo
 fn read_word(alloc: Global, line: &[u8]) -> Result<Option<(Bytes, &[u8])>, WordFault>
     ensures { Gives (λ read. option_map (λ x. (x.0, x.1.now)) read) result (next_word line.now) }
 {
-    let (_, line) = line.split_at(count_blanks(line));
+    let line = trim_start(Margin::Blanks, line);
     match line {
         [] => Ok(None),
         [QUOTE, rest @ ..] => read_closed(alloc, rest),
@@ -107,7 +90,8 @@ fn read_word(alloc: Global, line: &[u8]) -> Result<Option<(Bytes, &[u8])>, WordF
 
 // The same by the relation.
 fn find_words(alloc: Global, line: &[u8]) -> Result<Seq<Bytes>, WordFault>
-    ensures { MatchResult result (λ found. AreWords line.now (Ok found)) (λ fault. (fault ≢ WordFault.NoMemory) → AreWords line.now (Err fault)) }
+    ensures { MatchResult result (λ found. AreWords line.now (Ok found)) (λ fault. (fault ≢ WordFault.NoMemory)
+        → AreWords line.now (Err fault)) }
 {
     let mut words = Seq::new(alloc);
     let mut rest = line;
@@ -131,10 +115,12 @@ pub fn words_of(alloc: Global, line: &Line) -> Result<Seq<Bytes>, WordFault>
 /// A line has one reading: its words, or its first fault.
 pub fn one_reading_of_a_line()
     ensures is { (line : List ℕ) → AreWords line (words line) }
-    ensures only { (line : List ℕ) (answer : Result (List (List ℕ)) WordFault) → AreWords line answer → answer ≡ words line }
+    ensures only { (line : List ℕ) (answer : Result (List (List ℕ)) WordFault) → AreWords line answer
+        → answer ≡ words line }
 {}
 
 /// Words written in quotes, each behind a space, are read back.
 pub fn written_words_are_read()
-    ensures { (given : List (List ℕ)) → AllByRecursion (λ word. ends_with_backslash word ≡ false) given → words (spread given) ≡ Ok given }
+    ensures { (given : List (List ℕ)) → AllByRecursion (λ word. ends_with_backslash word ≡ false) given
+        → words (spread given) ≡ Ok given }
 {}

@@ -1,6 +1,8 @@
 use Rattle.std.proofs.Common.{◌≡◌, ◌≤◌, ◌*◌, ◌+◌, drop}
 use Rattle.std.specs.Prelude.{IfSome}
+use Rattle.sec_read.specs.declared.faults.Spot.{Spot}
 use Rattle.sec_read.specs.Listing.{lines_from, opened}
+use Rattle.sec_read.specs.Places.{IncludeOpens, LinesOpen}
 use Rattle.sec_read.proofs.files.+reading.Given as goal
 
 abbrev pub decreases-include : goal.decreases-include
@@ -18,5 +20,7 @@ invariant-read_lines-loop-line g l =
     record {
       same : files.content l.files ≡ files.content l.fn.files;
       later : files.faults l.fn.files ≤ files.faults l.files;
+      place : IfSome (files.content l.fn.files) (λ told. (spot : Spot) → LinesOpen told (opened told l.depth) (IncludeOpens told l.depth) l.file (drop l.line-index l.lines) l.reading spot
+          → LinesOpen told (opened told l.depth) (IncludeOpens told l.depth) l.file l.lines l.fn.reading spot);
       told : IfSome (files.content l.fn.files) (λ told. lines_from told (opened told l.depth) l.file (drop l.line-index l.lines) l.reading ≡ lines_from told (opened told l.depth) l.file l.lines l.fn.reading);
     }

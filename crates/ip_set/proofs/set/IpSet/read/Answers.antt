@@ -9,7 +9,7 @@ use Rattle.ip_set.proofs.set.IpSet.read.Goals as goal
 
 pub loop-at-preserved : goal.loop-at-preserved
 loop-at-preserved c =
-    let word = rw c.as_slice.ensures at c.in-Some.ensures in
+    let word = rw c.as_slice.ensures at c.in-Some.ensures.word in
     let i = c.loop-at.invariant in
     let items = c.as_slice-word-items.result.now in
     let same = c.as_slice-word-items.ensures in

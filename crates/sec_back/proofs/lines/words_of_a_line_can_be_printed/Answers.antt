@@ -1,5 +1,0 @@
-use Rattle.sec_back.proofs.ReadTexts.{words_can_be_printed}
-use Rattle.sec_back.proofs.lines.words_of_a_line_can_be_printed.Goals as goal
-
-pub returns : goal.returns
-returns c = words_can_be_printed

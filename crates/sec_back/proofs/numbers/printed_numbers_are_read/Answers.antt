@@ -1,5 +1,0 @@
-use Rattle.sec_back.proofs.DecimalTexts.{number_again}
-use Rattle.sec_back.proofs.numbers.printed_numbers_are_read.Goals as goal
-
-pub returns : goal.returns
-returns c = number_again

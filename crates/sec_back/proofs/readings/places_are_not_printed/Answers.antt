@@ -1,5 +1,0 @@
-use Rattle.sec_back.proofs.ListingTexts.{same_text}
-use Rattle.sec_back.proofs.readings.places_are_not_printed.Goals as goal
-
-pub returns : goal.returns
-returns c = same_text

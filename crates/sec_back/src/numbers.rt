@@ -1,7 +1,0 @@
-ghost use Rattle.std.specs.Prelude.{◌≡◌, ◌≤◌, ◌<◌, ◌^◌, ℕ, Some, decimal};
-ghost use Rattle.sec_parts.specs.Numbers.{number_in};
-
-/// A number within bounds below 2^32 is read back from its decimal digits. It does nothing.
-pub fn printed_numbers_are_read()
-    ensures { (low high n : ℕ) → low ≤ n → n ≤ high → high < 2 ^ 32 → number_in low high (decimal n) ≡ Some n }
-{}
