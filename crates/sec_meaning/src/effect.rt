@@ -75,7 +75,8 @@ fn redirect(
     location: &Macro,
     state: &PlainState,
 ) -> Result<Flow, NoMemory>
-    ensures { IfOk result (λ flow. flow ≡ interruption rule.now (VerdictAct.Redirect (expansion (held state.now) location.now)) (redirect_status rule.now.status)) }
+    ensures { IfOk result (λ flow. flow ≡ interruption rule.now
+        (VerdictAct.Redirect (expansion (held state.now) location.now)) (redirect_status rule.now.status)) }
 {
     let location = expanded(alloc, location, state)?;
     Ok(interruption(

@@ -10,6 +10,7 @@ use sec_ast::{Listing, Processor, Verdict};
 use sec_collect::AddedResponse;
 use sec_compile::build_items;
 use std::alloc::Global;
+use std::mem;
 use waf_plain::{NoMemory, Seq};
 use web_parts::{Request, Response};
 
@@ -86,8 +87,10 @@ fn response_part(
     first: &Option<Verdict>,
     state: &mut PlainState,
 ) -> Result<Option<Verdict>, NoMemory>
-    ensures verdict { IfOk result (λ verdict. verdict ≡ (response_part listing.now (option_copied response.entry) (record { state = state.old; verdict = first.now; looked = 0 })).verdict) }
-    ensures state { OnOk result (state.new ≡ (response_part listing.now (option_copied response.entry) (record { state = state.old; verdict = first.now; looked = 0 })).state) }
+    ensures verdict { IfOk result (λ verdict. verdict ≡ (response_part listing.now (option_copied response.entry)
+        (record { state = state.old; verdict = first.now; looked = 0 })).verdict) }
+    ensures state { OnOk result (state.new ≡ (response_part listing.now (option_copied response.entry)
+        (record { state = state.old; verdict = first.now; looked = 0 })).state) }
 {
     match response {
         None => Ok(None),
@@ -110,10 +113,26 @@ fn judged(
     ensures { IfOk result (λ judged. judged ≡ judge listing.now request.now (option_copied response.entry)) }
 {
     let mut state = PlainState::start(alloc, listing, request)?;
-    let first = two_phases(alloc, listing, 1, 2, &mut state)?;
-    let second = response_part(alloc, listing, response, &first, &mut state)?;
-    run(alloc, listing, 5, &mut state)?;
-    let PlainState { lines, .. } = state;
+    let judged = judged_from(alloc, listing, request, response, &mut state);
+    drop(state);
+    judged
+}
+
+// The judgement from the state before phase 1, whose lines are taken out.
+fn judged_from(
+    alloc: Global,
+    listing: &Listing,
+    request: &Request,
+    response: Option<&Response>,
+    state: &mut PlainState,
+) -> Result<Judged, NoMemory>
+    requires { state.old ≡ start listing.now request.now }
+    ensures { IfOk result (λ judged. judged ≡ judge listing.now request.now (option_copied response.entry)) }
+{
+    let first = two_phases(alloc, listing, 1, 2, state)?;
+    let second = response_part(alloc, listing, response, &first, state)?;
+    run(alloc, listing, 5, state)?;
+    let lines = mem::replace(&mut state.lines, Seq::new(alloc));
     Ok(Judged {
         first,
         second,

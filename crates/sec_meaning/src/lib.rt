@@ -1,4 +1,8 @@
-//! The meaning of rules: what a transaction comes to, as a definition.
+//! The meaning of rules: what a transaction comes to, as a definition, and slow functions that follow it
+//! to the letter.
+//!
+//! `plain_judge(alloc, &listing, &request, None)` answers the verdict on a request and its log lines. The
+//! definitions are `judge` in `specs/Judgement.antt` and `phase` in `specs/Phase.antt`.
 #![tactic(auto)]
 
 mod effect;

@@ -27,7 +27,10 @@ fn put_text(
     value: &Macro,
     state: &mut PlainState,
 ) -> Result<(), NoMemory>
-    ensures { OnOk result (state.new ≡ record state.old { tx = put_within name.now (expansion (held state.old) value.now) state.old.tx }) }
+    ensures { OnOk result
+        (state.new ≡ record state.old {
+          tx = put_within name.now (expansion (held state.old) value.now) state.old.tx;
+        }) }
 {
     let value = expanded(alloc, value, state)?;
     put_variable(alloc, &mut state.tx, name, value.as_slice())
@@ -39,7 +42,8 @@ fn put_number(
     number: i64,
     state: &mut PlainState,
 ) -> Result<(), NoMemory>
-    ensures { OnOk result (state.new ≡ record state.old { tx = put_within name.now (signed_decimal number) state.old.tx }) }
+    ensures { OnOk result
+        (state.new ≡ record state.old { tx = put_within name.now (signed_decimal number) state.old.tx }) }
 {
     let text = number.to_string(alloc)?;
     put_variable(alloc, &mut state.tx, name, text.as_bytes())
@@ -79,7 +83,8 @@ fn change_named(
     name: &[u8],
     state: &mut PlainState,
 ) -> Result<(), NoMemory>
-    ensures { OnOk result (state.new ≡ record state.old { tx = variables_after what.now name.now (held state.old) }) }
+    ensures { OnOk result
+        (state.new ≡ record state.old { tx = variables_after what.now name.now (held state.old) }) }
 {
     match name {
         [] => Ok(()),

@@ -38,7 +38,8 @@ fn unless_hit(
     row: &RowRef,
     found: Option<Found>,
 ) -> Result<Option<Matched>, NoMemory>
-    ensures { IfOk result (λ matched. matched ≡ unless_hit found (matched_as row.now (chained link.now.transforms row.now.value) [])) }
+    ensures { IfOk result (λ matched. matched
+        ≡ unless_hit found (matched_as row.now (chained link.now.transforms row.now.value) [])) }
 {
     match found {
         Some(_) => Ok(None),
@@ -123,7 +124,8 @@ fn matches_in(
 
 // The values that targets select.
 fn selected(alloc: Global, targets: &Seq<Target>, vars: &Vars) -> Result<Seq<RowRef>, NoMemory>
-    ensures { IfOk result (λ rows. rows ≡ selection is_matched (zip targets.now (patterns_of targets.now)) [] vars.now) }
+    ensures { IfOk result (λ rows. rows
+        ≡ selection is_matched (zip targets.now (patterns_of targets.now)) [] vars.now) }
 {
     let patterns = patterns_of(alloc, targets.as_slice())?;
     let removed = Seq::new(alloc);
@@ -132,7 +134,9 @@ fn selected(alloc: Global, targets: &Seq<Target>, vars: &Vars) -> Result<Seq<Row
 
 // The rows that a link matches among the variables of a state.
 fn matches_of(alloc: Global, link: &Link, vars: &Vars) -> Result<Seq<Matched>, NoMemory>
-    ensures { IfOk result (λ out. out ≡ flat_map (λ r. listed (match_of link.now (expansion vars.now link.now.op.text) r)) (selection is_matched (zip link.now.targets (patterns_of link.now.targets)) [] vars.now)) }
+    ensures { IfOk result (λ out. out ≡ flat_map
+        (λ r. listed (match_of link.now (expansion vars.now link.now.op.text) r))
+        (selection is_matched (zip link.now.targets (patterns_of link.now.targets)) [] vars.now)) }
 {
     let argument = expand(alloc, vars, &link.op.text)?;
     let rows = selected(alloc, &link.targets, vars)?;
@@ -149,5 +153,7 @@ pub(crate) fn matches(
     ensures { IfOk result (λ rows. rows ≡ matches link.now state.now) }
 {
     let vars = vars_of(alloc, state)?;
-    matches_of(alloc, link, &vars)
+    let rows = matches_of(alloc, link, &vars);
+    drop(vars);
+    rows
 }

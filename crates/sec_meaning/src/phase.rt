@@ -56,7 +56,8 @@ fn is_removed(rule: &Rule, state: &PlainState) -> bool
 }
 
 fn follow(flow: Flow, state: &mut PlainState) -> Result<After, NoMemory>
-    ensures { IfOk result (λ then. (rest : ThePassing → TheState → Run) → EndsAs (follow state.old flow rest) (after then state.new rest)) }
+    ensures { IfOk result (λ then. (rest : ThePassing → TheState → Run)
+        → EndsAs (follow state.old flow rest) (after then state.new rest)) }
 {
     match flow {
         Flow::Next => Ok(After::GoOn(Passing::Looking)),
@@ -79,7 +80,8 @@ fn follow(flow: Flow, state: &mut PlainState) -> Result<After, NoMemory>
 }
 
 fn look(alloc: Global, rule: &Rule, state: &mut PlainState) -> Result<After, NoMemory>
-    ensures { IfOk result (λ then. (rest : ThePassing → TheState → Run) → EndsAs (look rule.now state.old rest) (after then state.new rest)) }
+    ensures { IfOk result (λ then. (rest : ThePassing → TheState → Run)
+        → EndsAs (look rule.now state.old rest) (after then state.new rest)) }
 {
     if is_off(state.engine) {
         return Ok(After::End(None));
@@ -97,7 +99,8 @@ fn at_rule(
     rule: &Rule,
     state: &mut PlainState,
 ) -> Result<After, NoMemory>
-    ensures { IfOk result (λ then. (rest : ThePassing → TheState → Run) → EndsAs (at_rule passing rule.now state.old rest) (after then state.new rest)) }
+    ensures { IfOk result (λ then. (rest : ThePassing → TheState → Run)
+        → EndsAs (at_rule passing rule.now state.old rest) (after then state.new rest)) }
 {
     match passing {
         Passing::Looking => look(alloc, rule, state),
@@ -135,7 +138,8 @@ fn at_item(
     passing: Passing,
     state: &mut PlainState,
 ) -> Result<After, NoMemory>
-    ensures { IfOk result (λ then. (left : List TheItem) → EndsAs (walk number (item.now ∷ left) passing state.old) (after then state.new (walk number left))) }
+    ensures { IfOk result (λ then. (left : List TheItem)
+        → EndsAs (walk number (item.now ∷ left) passing state.old) (after then state.new (walk number left))) }
 {
     match item {
         Item::Marker(marker) => Ok(After::GoOn(at_marker(marker, passing))),
@@ -154,7 +158,8 @@ fn walk(
     items: &[Item],
     state: &mut PlainState,
 ) -> Result<Option<Verdict>, NoMemory>
-    ensures { IfOk result (λ verdict. EndsAs (walk number items.now Passing.Looking state.old) (record { state = state.new; verdict = verdict; looked = 0 })) }
+    ensures { IfOk result (λ verdict. EndsAs (walk number items.now Passing.Looking state.old)
+        (record { state = state.new; verdict = verdict; looked = 0 })) }
 {
     let mut passing = Passing::Looking;
     for item in items {
@@ -210,7 +215,8 @@ fn with_body(
     listing: &Listing,
     state: &mut PlainState,
 ) -> Result<Option<Verdict>, NoMemory>
-    ensures { IfOk result (λ verdict. EndsAs (with_body listing.now state.old) (record { state = state.new; verdict = verdict; looked = 0 })) }
+    ensures { IfOk result (λ verdict. EndsAs (with_body listing.now state.old)
+        (record { state = state.new; verdict = verdict; looked = 0 })) }
 {
     if is_rejected(listing, state) {
         state.verdict = Some(too_large());

@@ -22,7 +22,10 @@ pub(crate) fn vars_of(alloc: Global, state: &PlainState) -> Result<Vars, NoMemor
     vars.set_processor(state.processor);
     match fill(alloc, state, &mut vars) {
         Ok(()) => Ok(vars),
-        Err(NoMemory) => Err(NoMemory),
+        Err(NoMemory) => {
+            drop(vars);
+            Err(NoMemory)
+        }
     }
 }
 
@@ -30,7 +33,13 @@ pub(crate) fn vars_of(alloc: Global, state: &PlainState) -> Result<Vars, NoMemor
 fn fill(alloc: Global, state: &PlainState, vars: &mut Vars) -> Result<(), NoMemory>
     requires body { vars.old.body ≡ None }
     requires response { vars.old.response ≡ None }
-    ensures { OnOk result (vars.new ≡ record vars.old { body = state.now.body; response = state.now.response; tx = state.now.tx; captured = state.now.captured; matched = state.now.matched }) }
+    ensures { OnOk result (vars.new ≡ record vars.old {
+      body = state.now.body;
+      response = state.now.response;
+      tx = state.now.tx;
+      captured = state.now.captured;
+      matched = state.now.matched;
+    }) }
 {
     add_body(alloc, state.body, vars)?;
     add_response(alloc, &state.response, vars)?;
@@ -38,7 +47,11 @@ fn fill(alloc: Global, state: &PlainState, vars: &mut Vars) -> Result<(), NoMemo
 }
 
 fn copy_lists(state: &PlainState, vars: &mut Vars) -> Result<(), NoMemory>
-    ensures { OnOk result (vars.new ≡ record vars.old { tx = state.now.tx; captured = state.now.captured; matched = state.now.matched }) }
+    ensures { OnOk result (vars.new ≡ record vars.old {
+      tx = state.now.tx;
+      captured = state.now.captured;
+      matched = state.now.matched;
+    }) }
 {
     let tx = state.tx.clone()?;
     let captured = state.captured.clone()?;
@@ -79,7 +92,9 @@ pub(crate) fn expanded(alloc: Global, text: &Macro, state: &PlainState) -> Resul
     ensures { IfOk result (λ bytes. bytes ≡ expansion (held state.now) text.now) }
 {
     let vars = vars_of(alloc, state)?;
-    expand(alloc, &vars, text)
+    let expanded = expand(alloc, &vars, text);
+    drop(vars);
+    expanded
 }
 
 /// The processor that opens the body now, if it is opened.
@@ -87,7 +102,9 @@ pub(crate) fn chosen_processor(alloc: Global, state: &PlainState) -> Result<Proc
     ensures { IfOk result (λ processor. processor ≡ chosen_processor (held state.now)) }
 {
     let vars = vars_of(alloc, state)?;
-    Ok(vars.chosen_processor())
+    let processor = vars.chosen_processor();
+    drop(vars);
+    Ok(processor)
 }
 
 // Adds a value where it is not the one before.
