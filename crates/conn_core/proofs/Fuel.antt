@@ -2,7 +2,7 @@
 use Rattle.std.proofs.Common.{◌≡◌, ℕ, zero, suc, ◌<◌, Bool, Option, List, ◌++◌, length, refl, arith}
 use Rattle.spop_frame.specs.Head.{Head, NotYet, Bad, Whole, head_of}
 use Rattle.spop_frame.specs.declared.frame.Frame.{Frame}
-use Rattle.conn_core.specs.Trace.{Need, Reply, at_head, any_frame, frames, onward, limit_of}
+use Rattle.conn_core.specs.Trace.{Need, Reply, at_head, any_frame, frames, needs_from, limit_of}
 use Rattle.conn_core.proofs.Heads.{shorter, whole_more}
 
 module _ {R P T : Type 0} where
@@ -24,7 +24,7 @@ module _ {R P T : Type 0} where
 
   -- where a frame stands at the head
   pub at_whole : (size : ℕ) (agreed : Option ℕ) (unread more : List ℕ) (ended : Bool) (f : Frame) (r : List ℕ) (replies : List (Reply R P T)) → head_of (limit_of size agreed) unread ≡ Whole f r
-      → onward size agreed (unread ++ more) ended replies ≡ any_frame size agreed (λ a. onward size a (r ++ more) ended) f replies
+      → needs_from size agreed (unread ++ more) ended replies ≡ any_frame size agreed (λ a. needs_from size a (r ++ more) ended) f replies
   at_whole size agreed unread more ended f r replies e =
       let w = whole_more (limit_of size agreed) unread more f r e in
       let lt = shorter (limit_of size agreed) (unread ++ more) f (r ++ more) w in

@@ -26,7 +26,7 @@ use Rattle.conn_core.specs.declared.stage.Stage.{Stage}
 use Rattle.conn_core.specs.declared.stage.Stage.TheVariants as at
 use Rattle.conn_core.specs.Outcome.{actions_of}
 use Rattle.conn_core.specs.Trace.{Need, Leave, Write, Close, Reply, refuse, any_frame, notify, at_end, limit_of, is_misplaced, trace}
-use Rattle.conn_core.specs.Stands.{State, Held, left_of, left_with, hears, is_open, Going, tickets_in, spent_in, held_at, Plain, Broken, IsEnding, StandsAs, Stands, Waits, ending, Closes}
+use Rattle.conn_core.specs.Stands.{State, ConnView, left_of, left_with, hears, is_open, Going, tickets_in, spent_in, held_at, Plain, Broken, IsEnding, StandsAs, Stands, Waits, ending, Closes}
 use Rattle.conn_core.proofs.Steps.{stays, stands, at_stage}
 use Rattle.conn_core.proofs.Heads.{bad_more}
 use Rattle.conn_core.proofs.Fuel.{at_whole}
@@ -50,14 +50,14 @@ agreed_on (Some a) P h = (a, refl, h)
 
 module _ {R P T : Type 0} where
   -- with nothing more the trace is what was done and what is left
-  pub trace_now : (c : Held R P T) (s : State R P T) → Going c s → trace s.size s.input s.ended s.replies ≡ s.past ++ left_of c [] c.ended []
+  pub trace_now : (c : ConnView R P T) (s : State R P T) → Going c s → trace s.size s.input s.ended s.replies ≡ s.past ++ left_of c [] c.ended []
   trace_now c s g =
       let input : s.input ++ cond (hears c.stage c.ended) [] [] ≡ s.input = ap (λ (l : List ℕ). s.input ++ l) (same_cond (hears c.stage c.ended) []) ∙ append-nil s.input in
       let ended : (cond (hears c.stage c.ended) false false || s.ended) ≡ s.ended = ap (λ (b : Bool). b || s.ended) (same_cond (hears c.stage c.ended) false) in
       sym (λ i. trace s.size (input i) (ended i) (append-nil s.replies i)) ∙ g.is [] false []
 
   -- no memory was found
-  pub broke : (c d : Held R P T) (s : State R P T) → d.broken ≡ true → Waits d.stage d → IsEnding d.stage
+  pub broke : (c d : ConnView R P T) (s : State R P T) → d.broken ≡ true → Waits d.stage d → IsEnding d.stage
       → ending d.stage ≡ map Leave (held_at c.stage) ++ (Write (disconnect 13) ∷ Close (closings.Ended 13) ∷ []) → Plain c s → Stands d s
   broke c d s b w i e p =
       let open_tickets : drop (length (spent_in s.past)) (tickets_in s.replies) ≡ held_at c.stage =
@@ -74,13 +74,13 @@ module _ {R P T : Type 0} where
       record { waits = w; stands = subst (λ (x : Bool). StandsAs x d s) (sym b) broken }
 
   -- where it holds no ticket
-  pub fallen : (c d : Held R P T) (s : State R P T) → d.stage ≡ at.LastWrite → d.broken ≡ true → held_at c.stage ≡ [] → Plain c s → Stands d s
+  pub fallen : (c d : ConnView R P T) (s : State R P T) → d.stage ≡ at.LastWrite → d.broken ≡ true → held_at c.stage ≡ [] → Plain c s → Stands d s
   fallen c d s e b t p =
       broke c d s b (subst (λ (x : Stage R P T). Waits x d) (sym e) b) (subst (λ (x : Stage R P T). IsEnding x) (sym e) tt)
       (ap (λ (x : Stage R P T). ending x) e ∙ ap (λ (l : List T). map Leave l ++ (Write (disconnect 13) ∷ Close (closings.Ended 13) ∷ [])) (sym t)) p
 
   -- no memory was found for a piece of the input
-  pub broke_fed : (c d : Held R P T) (s : State R P T) (piece : List ℕ) → hears c.stage c.ended ≡ true → d.broken ≡ true → Waits d.stage d → IsEnding d.stage
+  pub broke_fed : (c d : ConnView R P T) (s : State R P T) (piece : List ℕ) → hears c.stage c.ended ≡ true → d.broken ≡ true → Waits d.stage d → IsEnding d.stage
       → ending d.stage ≡ map Leave (held_at c.stage) ++ (Write (disconnect 13) ∷ Close (closings.Ended 13) ∷ []) → Plain c s → Stands d (record s { input = s.input ++ piece })
   broke_fed c d s piece h b w i e p =
       let open_tickets : drop (length (spent_in s.past)) (tickets_in s.replies) ≡ held_at c.stage =
@@ -99,7 +99,7 @@ module _ {R P T : Type 0} where
       record { waits = w; stands = subst (λ (x : Bool). StandsAs x d (record s { input = s.input ++ piece })) (sym b) broken }
 
   -- a piece of the input comes
-  pub fed_on : (c : Held R P T) (s : State R P T) (piece : List ℕ) → hears c.stage c.ended ≡ true → Plain c s → Plain (record c { unread = c.unread ++ piece }) (record s { input = s.input ++ piece })
+  pub fed_on : (c : ConnView R P T) (s : State R P T) (piece : List ℕ) → hears c.stage c.ended ≡ true → Plain c s → Plain (record c { unread = c.unread ++ piece }) (record s { input = s.input ++ piece })
   fed_on c s piece h p = record {
     going = record {
       is = λ more ends later.
@@ -137,7 +137,7 @@ module _ {R P T : Type 0} where
   hears_open (at.Close how) ended o = absurd cc
 
   -- the input ends
-  pub shut_on : (c : Held R P T) (s : State R P T) → is_open c.stage ≡ true → Plain c s → Plain (record c { ended = true }) (record s { ended = true })
+  pub shut_on : (c : ConnView R P T) (s : State R P T) → is_open c.stage ≡ true → Plain c s → Plain (record c { ended = true }) (record s { ended = true })
   shut_on c s o p = record {
     going = record {
       is = λ more ends later.
@@ -151,9 +151,9 @@ module _ {R P T : Type 0} where
     ended = refl;
   }
 
-  pub closes : (c : Held R P T) (s : State R P T) (how : closing.Closing) → c.stage ≡ at.Close how → Stands c s → Closes c s how
+  pub closes : (c : ConnView R P T) (s : State R P T) (how : closing.Closing) → c.stage ≡ at.Close how → Stands c s → Closes c s how
   closes c s how e h =
-      let here : Held R P T = record c { stage = at.Close how } in
+      let here : ConnView R P T = record c { stage = at.Close how } in
       record {
         plain = λ b. let k : Plain here s = subst (λ (x : Bool). StandsAs x here s) b (at_stage c s (at.Close how) e h).stands in
             trace_now here s k.going;
@@ -167,7 +167,7 @@ module _ {R P T : Type 0} where
         broke = λ b. let k : Broken here s = subst (λ (x : Bool). StandsAs x here s) b (at_stage c s (at.Close how) e h).stands in k.trace_is;
       }
 
-  pub plain_at : (c : Held R P T) (s : State R P T) (stage : Stage R P T) → c.stage ≡ stage → Plain c s → Plain (record c { stage = stage }) s
+  pub plain_at : (c : ConnView R P T) (s : State R P T) (stage : Stage R P T) → c.stage ≡ stage → Plain c s → Plain (record c { stage = stage }) s
   plain_at c s stage e h = subst (λ (x : Stage R P T). Plain (record c { stage = x }) s) e h
 
   -- a frame, by its type
@@ -201,8 +201,8 @@ module _ {R P T : Type 0} where
     frame_other None a h two three e = absurd cc
     frame_other (Some x) a h two three e = rw (ne_eqb f.kind 2 two, ne_eqb f.kind 3 three, e) refl
 
-  module _ (c : Held R P T) (s : State R P T) (f : Frame) where
-    abbrev here : Held R P T
+  module _ (c : ConnView R P T) (s : State R P T) (f : Frame) where
+    abbrev here : ConnView R P T
     here = record c { stage = at.Framed f }
 
     pub take_two : f.kind ≡ 2 → Plain here s → Plain (record c { stage = at.Write (disconnect 0) (Some closings.Done) }) s
@@ -239,7 +239,7 @@ module _ {R P T : Type 0} where
         (λ more ends later. frame_notify c.size _ f later c.agreed a h e ∙ (rw (m, limit_past c.agreed a h) refl)) refl p
 
   -- at the next message
-  module _ (c : Held R P T) (s : State R P T) (ready : c.stage ≡ at.Ready) where
+  module _ (c : ConnView R P T) (s : State R P T) (ready : c.stage ≡ at.Ready) where
     pub too_big : c.left ≡ [] → limit_of c.size c.agreed < length (ack_body c.stream c.frame c.actions) → Plain c s → Plain (record c { stage = at.Write (disconnect 3) (Some (closings.Ended 3)) }) s
     too_big l b p = stays (record c { stage = at.Ready }) (record c { stage = at.Write (disconnect 3) (Some (closings.Ended 3)) }) s refl refl
         (λ more ends later. rw (l, lt-ltb (limit_of c.size c.agreed) (length (ack_body c.stream c.frame c.actions)) b) refl) refl (plain_at c s at.Ready ready p)
@@ -249,7 +249,7 @@ module _ {R P T : Type 0} where
         (λ more ends later. rw (l, le-ltb (limit_of c.size c.agreed) (length (ack_body c.stream c.frame c.actions)) b) refl) refl (plain_at c s at.Ready ready p)
 
     module _ (m : Message) where
-      abbrev before : Held R P T
+      abbrev before : ConnView R P T
       before = record c { left = m ∷ c.left }
 
       at_ready : Plain before s → Plain (record c { stage = at.Ready; left = m ∷ c.left }) s
@@ -282,7 +282,7 @@ module _ {R P T : Type 0} where
           (λ more ends later. rw (o, q, b, i) refl) refl (at_ready p)
 
   -- at the next frame
-  module _ (c : Held R P T) (s : State R P T) (bytes : c.stage ≡ at.Bytes) where
+  module _ (c : ConnView R P T) (s : State R P T) (bytes : c.stage ≡ at.Bytes) where
     pub shut_down : (how : closing.Closing) → head_of (limit_of c.size c.agreed) c.unread ≡ NotYet → c.ended ≡ true → at_end {R = R} {P = P} {T = T} true c.unread ≡ Close how ∷ [] → Plain c s → Plain (record c { stage = at.Close how }) s
     shut_down how h t e p = stays (record c { stage = at.Bytes }) (record c { stage = at.Close how }) s refl refl
         (λ more ends later. rw (t, append-nil c.unread, h) e) refl (plain_at c s at.Bytes bytes p)

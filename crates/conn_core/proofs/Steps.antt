@@ -2,7 +2,7 @@
 use Rattle.std.proofs.Common.{◌≡◌, ℕ, Bool, true, false, cond, ◌||◌, List, [], ◌∷◌, ◌++◌, refl, sym, ◌∙◌, ap, subst, append_assoc, append-nil}
 use Rattle.conn_core.specs.declared.stage.Stage.{Stage}
 use Rattle.conn_core.specs.Trace.{Need, Bytes, Look, Enter, Begin, Park, Leave, Resume, Finish, Retire, Write, Close, Reply, Found, UnknownApp, Entered, Refused, Interrupted, Goes, Resumed, NotParked, Ended, trace}
-use Rattle.conn_core.specs.Stands.{State, Held, served, replied, left_of, hears, Going, tickets_in, spent_in, held_at, Plain, IsEnding, StandsAs, Stands, Waits}
+use Rattle.conn_core.specs.Stands.{State, ConnView, served, replied, left_of, hears, Going, tickets_in, spent_in, held_at, Plain, IsEnding, StandsAs, Stands, Waits}
 
 module _ {R P T : Type 0} where
   pub tickets_append : (a b : List (Reply R P T)) → tickets_in (a ++ b) ≡ tickets_in a ++ tickets_in b
@@ -36,11 +36,11 @@ module _ {R P T : Type 0} where
   moved done got s = record { size = s.size; input = s.input; ended = s.ended; replies = s.replies ++ got; past = s.past ++ done }
 
   -- what is left of c, with the replies got, is what is done and what is left of d
-  abbrev pub Moves : Held R P T → Held R P T → List (Need R P T) → List (Reply R P T) → Type 0
+  abbrev pub Moves : ConnView R P T → ConnView R P T → List (Need R P T) → List (Reply R P T) → Type 0
   Moves c d done got = (more : List ℕ) (ends : Bool) (later : List (Reply R P T)) →
       left_of c (cond (hears d.stage d.ended) more []) (cond (hears d.stage d.ended) ends false || c.ended) (got ++ later) ≡ done ++ left_of d more (ends || d.ended) later
 
-  pub going_on : (c d : Held R P T) (s : State R P T) (done : List (Need R P T)) (got : List (Reply R P T)) → hears c.stage c.ended ≡ true
+  pub going_on : (c d : ConnView R P T) (s : State R P T) (done : List (Need R P T)) (got : List (Reply R P T)) → hears c.stage c.ended ≡ true
       → Moves c d done got → Going c s → Going d (moved done got s)
   going_on c d s done got h m g = record {
     is = λ more ends later.
@@ -56,7 +56,7 @@ module _ {R P T : Type 0} where
   abbrev pub Balances : Stage R P T → Stage R P T → List (Need R P T) → List (Reply R P T) → Type 0
   Balances c d done got = held_at c ++ tickets_in got ≡ spent_in done ++ held_at d
 
-  pub plain_on : (c d : Held R P T) (s : State R P T) (done : List (Need R P T)) (got : List (Reply R P T)) → hears c.stage c.ended ≡ true → d.ended ≡ c.ended
+  pub plain_on : (c d : ConnView R P T) (s : State R P T) (done : List (Need R P T)) (got : List (Reply R P T)) → hears c.stage c.ended ≡ true → d.ended ≡ c.ended
       → Moves c d done got → Balances c.stage d.stage done got → Plain c s → Plain d (moved done got s)
   plain_on c d s done got h same m b p = record {
     going = going_on c d s done got h m p.going;
@@ -76,25 +76,25 @@ module _ {R P T : Type 0} where
   nothing s = only_past [] s ∙ ap (λ (l : List (Need R P T)). record { size = s.size; input = s.input; ended = s.ended; replies = s.replies; past = l }) (append-nil s.past)
 
   -- a need is done; a reply is got; both; neither
-  pub serves : (c d : Held R P T) (s : State R P T) (n : Need R P T) → hears c.stage c.ended ≡ true → d.ended ≡ c.ended → Moves c d (n ∷ []) [] → Balances c.stage d.stage (n ∷ []) [] → Plain c s → Plain d (served n s)
+  pub serves : (c d : ConnView R P T) (s : State R P T) (n : Need R P T) → hears c.stage c.ended ≡ true → d.ended ≡ c.ended → Moves c d (n ∷ []) [] → Balances c.stage d.stage (n ∷ []) [] → Plain c s → Plain d (served n s)
   serves c d s n h same m b p = subst (λ (x : State R P T). Plain d x) (only_past (n ∷ []) s) (plain_on c d s (n ∷ []) [] h same m b p)
 
-  pub hears_of : (c d : Held R P T) (s : State R P T) (r : Reply R P T) → hears c.stage c.ended ≡ true → d.ended ≡ c.ended → Moves c d [] (r ∷ []) → Balances c.stage d.stage [] (r ∷ []) → Plain c s → Plain d (replied r s)
+  pub hears_of : (c d : ConnView R P T) (s : State R P T) (r : Reply R P T) → hears c.stage c.ended ≡ true → d.ended ≡ c.ended → Moves c d [] (r ∷ []) → Balances c.stage d.stage [] (r ∷ []) → Plain c s → Plain d (replied r s)
   hears_of c d s r h same m b p = subst (λ (x : State R P T). Plain d x) (only_replies (r ∷ []) s) (plain_on c d s [] (r ∷ []) h same m b p)
 
-  pub both : (c d : Held R P T) (s : State R P T) (n : Need R P T) (r : Reply R P T) → hears c.stage c.ended ≡ true → d.ended ≡ c.ended → Moves c d (n ∷ []) (r ∷ []) → Balances c.stage d.stage (n ∷ []) (r ∷ []) → Plain c s → Plain d (replied r (served n s))
+  pub both : (c d : ConnView R P T) (s : State R P T) (n : Need R P T) (r : Reply R P T) → hears c.stage c.ended ≡ true → d.ended ≡ c.ended → Moves c d (n ∷ []) (r ∷ []) → Balances c.stage d.stage (n ∷ []) (r ∷ []) → Plain c s → Plain d (replied r (served n s))
   both c d s n r h same m b p = plain_on c d s (n ∷ []) (r ∷ []) h same m b p
 
-  pub stays : (c d : Held R P T) (s : State R P T) → hears c.stage c.ended ≡ true → d.ended ≡ c.ended → Moves c d [] [] → Balances c.stage d.stage [] [] → Plain c s → Plain d s
+  pub stays : (c d : ConnView R P T) (s : State R P T) → hears c.stage c.ended ≡ true → d.ended ≡ c.ended → Moves c d [] [] → Balances c.stage d.stage [] [] → Plain c s → Plain d s
   stays c d s h same m b p = subst (λ (x : State R P T). Plain d x) (nothing s) (plain_on c d s [] [] h same m b p)
 
   -- where it can't be broken
-  pub plain_of : (b : Bool) (c : Held R P T) (s : State R P T) → (IsEnding c.stage → ⊥) → StandsAs b c s → (b ≡ false) × Plain c s
+  pub plain_of : (b : Bool) (c : ConnView R P T) (s : State R P T) → (IsEnding c.stage → ⊥) → StandsAs b c s → (b ≡ false) × Plain c s
   plain_of false c s n p = (refl, p)
   plain_of true c s n p = absurd (n p.ending_is)
 
-  pub stands : (c : Held R P T) (s : State R P T) → c.broken ≡ false → Waits c.stage c → Plain c s → Stands c s
+  pub stands : (c : ConnView R P T) (s : State R P T) → c.broken ≡ false → Waits c.stage c → Plain c s → Stands c s
   stands c s b w p = record { waits = w; stands = subst (λ (x : Bool). StandsAs x c s) (sym b) p }
 
-  pub at_stage : (c : Held R P T) (s : State R P T) (stage : Stage R P T) → c.stage ≡ stage → Stands c s → Stands (record c { stage = stage }) s
+  pub at_stage : (c : ConnView R P T) (s : State R P T) (stage : Stage R P T) → c.stage ≡ stage → Stands c s → Stands (record c { stage = stage }) s
   at_stage c s stage e h = subst (λ (x : Stage R P T). Stands (record c { stage = x }) s) e h

@@ -14,6 +14,7 @@ use Rattle.conn_core.specs.declared.need.Need as need
 use Rattle.conn_core.specs.declared.need.Need.TheVariants as needs
 use Rattle.conn_core.specs.declared.stage.Stage.{Stage}
 use Rattle.conn_core.specs.declared.stage.Stage.TheVariants as at
+use Rattle.conn_core.specs.declared.status.TheConstants.{ID_IN_USE, NO_MEMORY, TABLE_FULL, WORN}
 use Rattle.conn_core.specs.Trace.{Look, Reply, Found, UnknownApp, Entered, Refused, Interrupted, Goes, Resumed, NotParked, Ended}
 use Rattle.conn_core.specs.Stands.{State, served, replied}
 
@@ -114,12 +115,6 @@ module _ {R P T : Type 0} where
   HasKey (at.Resume id key response) = Unit {0}
   HasKey stage = ⊥
 
-  -- it holds nothing of a need
-  abbrev pub IsBlank : Stage R P T → Type 0
-  IsBlank at.Bytes = Unit {0}
-  IsBlank at.Ready = Unit {0}
-  IsBlank stage = ⊥
-
   -- the application that is looked for, the bytes to be written, how it closes
   abbrev pub app_of : Stage R P T → List ℕ
   app_of (at.Look id key request) = key.app
@@ -127,17 +122,12 @@ module _ {R P T : Type 0} where
 
   abbrev pub out_of : Stage R P T → List ℕ
   out_of (at.Write bytes then) = bytes
-  out_of at.LastWrite = disconnect 13
+  out_of at.LastWrite = disconnect NO_MEMORY
   out_of stage = []
 
   abbrev pub closing_of : Stage R P T → Option closing.Closing
   closing_of (at.Close how) = Some how
   closing_of stage = None
-
-  -- what comes after the bytes are written
-  abbrev pub after_write : Option closing.Closing → Stage R P T
-  after_write None = at.Bytes
-  after_write (Some how) = at.Close how
 
   -- the calls of this need may be made
   abbrev pub At : need.Need → Bool → Stage R P T → Type 0
@@ -161,9 +151,9 @@ module _ {R P T : Type 0} where
 
   abbrev pub entry_of : enterings.EntryAnswer T → Reply R P T
   entry_of (entries.Entered ticket) = Entered ticket
-  entry_of entries.IdInUse = Refused 2
-  entry_of entries.Full = Refused 3
-  entry_of entries.Worn = Refused 6
+  entry_of entries.IdInUse = Refused ID_IN_USE
+  entry_of entries.Full = Refused TABLE_FULL
+  entry_of entries.Worn = Refused WORN
 
   abbrev pub begun_with : beginnings.BegunAnswer P → State R P T → State R P T
   begun_with (beguns.Interrupted verdict) s = replied (Interrupted verdict) s

@@ -2,3 +2,4 @@ pub mod Outcome
 pub mod Trace
 pub mod Stands
 pub mod Calls
+pub mod Between

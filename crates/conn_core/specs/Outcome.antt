@@ -8,6 +8,7 @@ use Rattle.sec_ast.specs.declared.verdict.VerdictAct as act
 use Rattle.sec_ast.specs.declared.verdict.VerdictAct.TheVariants as acts
 use Rattle.conn_core.specs.declared.outcome.Outcome as outcome
 use Rattle.conn_core.specs.declared.outcome.Outcome.TheVariants as outcomes
+use Rattle.conn_core.specs.declared.status.TheConstants.{BAD_ARGUMENT}
 
 -- one action: a STRING, or a UINT32
 abbrev pub text_action : List ℕ → List ℕ → List Action
@@ -36,7 +37,7 @@ abbrev pub outcome_actions : outcome.Outcome → List Action
 outcome_actions outcomes.Passed = []
 outcome_actions (outcomes.Stopped verdict) = verdict_actions verdict
 outcome_actions (outcomes.Failed error) = number_action (codes "error") error
-outcome_actions (outcomes.Bad arg) = text_action (codes "data") (name_of arg) ++ number_action (codes "error") 5
+outcome_actions (outcomes.Bad arg) = text_action (codes "data") (name_of arg) ++ number_action (codes "error") BAD_ARGUMENT
 
 -- the identifier first, where it is good
 abbrev pub actions_of : Option (List ℕ) → outcome.Outcome → List Action

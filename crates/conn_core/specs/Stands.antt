@@ -1,5 +1,5 @@
 -- When a connection stands for a state of the definition.
-use Rattle.std.specs.Prelude.{◌≡◌, ℕ, ◌+◌, ◌*◌, Bool, true, false, cond, not, ◌||◌, Option, Some, None, List, [], ◌∷◌, ◌++◌, length, drop, map}
+use Rattle.std.specs.Prelude.{◌≡◌, ◌⊎◌, ℕ, ◌+◌, ◌*◌, Bool, true, false, cond, not, ◌||◌, Option, Some, None, List, [], ◌∷◌, ◌++◌, length, drop, map}
 use Rattle.spop_frame.specs.Head.{NotYet, head_of}
 use Rattle.spop_frame.specs.declared.frame.Frame.{Frame}
 use Rattle.spop_hello.specs.Frames.{disconnect}
@@ -10,18 +10,19 @@ use Rattle.conn_core.specs.declared.need.Closing.TheVariants as closings
 use Rattle.conn_core.specs.declared.stage.Hold.{Hold}
 use Rattle.conn_core.specs.declared.stage.Stage.{Stage}
 use Rattle.conn_core.specs.declared.stage.Stage.TheVariants as at
-use Rattle.conn_core.specs.Trace.{Need, Bytes, Look, Enter, Begin, Park, Leave, Resume, Finish, Retire, Write, Close, Reply, Entered, judged, begun, entered, looked, finished, resumed, messages, answer, limit_of, onward, any_frame, trace}
+use Rattle.conn_core.specs.declared.status.TheConstants.{NO_MEMORY}
+use Rattle.conn_core.specs.Trace.{Need, Needs, Bytes, Look, Enter, Begin, Park, Leave, Resume, Finish, Retire, Write, Close, Reply, Replies, Next, Entered, judged, begun, entered, looked, finished, resumed, messages, answer, limit_of, needs_from, any_frame, trace}
 
 -- a state of the definition: the input so far, whether it has ended, the replies so far, and the needs that are done
 pub record State (R P T : Type 0) : Type 0 where
   pub size : ℕ
   pub input : List ℕ
   pub ended : Bool
-  pub replies : List (Reply R P T)
-  pub past : List (Need R P T)
+  pub replies : Replies R P T
+  pub past : Needs R P T
 
 -- what a connection is seen as
-pub record Held (R P T : Type 0) : Type 0 where
+pub record ConnView (R P T : Type 0) : Type 0 where
   pub size : ℕ
   pub agreed : Option ℕ
   pub unread : List ℕ
@@ -32,6 +33,10 @@ pub record Held (R P T : Type 0) : Type 0 where
   pub left : List Message
   pub actions : List Action
   pub broken : Bool
+
+-- its former name, by which the program's definitions call it
+abbrev pub Held : Type 0 → Type 0 → Type 0 → Type 0
+Held R P T = ConnView R P T
 
 -- the ticket that is held
 abbrev pub ticket_of : {T : Type 0} → Option (Hold T) → Option T
@@ -57,7 +62,7 @@ module _ {R P T : Type 0} where
 
   -- what is left, by where it stands: `h` goes on at a frame, `k` after a message with its actions, `r` at the next
   -- message, `f` at the next frame
-  abbrev pub left_at : Stage R P T → (Frame → List (Reply R P T) → List (Need R P T)) → (List Action → List (Reply R P T) → List (Need R P T)) → (List (Reply R P T) → List (Need R P T)) → (List (Reply R P T) → List (Need R P T)) → List (Reply R P T) → List (Need R P T)
+  abbrev pub left_at : Stage R P T → (Frame → Replies R P T → Needs R P T) → Next R P T → (Replies R P T → Needs R P T) → (Replies R P T → Needs R P T) → Replies R P T → Needs R P T
   left_at at.Bytes h k r f later = f later
   left_at (at.Framed frame) h k r f later = h frame later
   left_at at.Ready h k r f later = r later
@@ -76,20 +81,20 @@ module _ {R P T : Type 0} where
   left_at (at.Finishing id) h k r f later = finished id k later
   left_at (at.Write bytes None) h k r f later = Write bytes ∷ f later
   left_at (at.Write bytes (Some how)) h k r f later = Write bytes ∷ Close how ∷ []
-  left_at (at.LastLeave ticket) h k r f later = Leave ticket ∷ Write (disconnect 13) ∷ Close (closings.Ended 13) ∷ []
-  left_at at.LastWrite h k r f later = Write (disconnect 13) ∷ Close (closings.Ended 13) ∷ []
+  left_at (at.LastLeave ticket) h k r f later = Leave ticket ∷ Write (disconnect NO_MEMORY) ∷ Close (closings.Ended NO_MEMORY) ∷ []
+  left_at at.LastWrite h k r f later = Write (disconnect NO_MEMORY) ∷ Close (closings.Ended NO_MEMORY) ∷ []
   left_at (at.Close how) h k r f later = Close how ∷ []
 
   -- with what is unread, whether the input has ended by then, and the replies that come yet
-  abbrev pub left_with : Held R P T → List ℕ → Bool → List (Reply R P T) → List (Need R P T)
+  abbrev pub left_with : ConnView R P T → List ℕ → Bool → Replies R P T → Needs R P T
   left_with c unread ended =
-      let f = onward {R = R} {P = P} {T = T} c.size c.agreed unread ended in
+      let f = needs_from {R = R} {P = P} {T = T} c.size c.agreed unread ended in
       let r = λ (actions : List Action). messages {R = R} {P = P} {T = T} c.left actions (answer (limit_of c.size c.agreed) c.stream c.frame f) in
-      left_at c.stage (any_frame {R = R} {P = P} {T = T} c.size c.agreed (λ agreed. onward c.size agreed unread ended))
+      left_at c.stage (any_frame {R = R} {P = P} {T = T} c.size c.agreed (λ agreed. needs_from c.size agreed unread ended))
       (λ actions. r (c.actions ++ actions)) (r c.actions) f
 
   -- with the input that comes yet
-  abbrev pub left_of : Held R P T → List ℕ → Bool → List (Reply R P T) → List (Need R P T)
+  abbrev pub left_of : ConnView R P T → List ℕ → Bool → Replies R P T → Needs R P T
   left_of c more ended = left_with c (c.unread ++ more) ended
 
   -- nothing comes behind the end of an input at which it closed
@@ -98,18 +103,18 @@ module _ {R P T : Type 0} where
   hears stage ended = true
 
   -- however it goes on, the needs are those that are done, and then those that are left
-  pub record Going (c : Held R P T) (s : State R P T) : Type 0 where
-    pub is : (more : List ℕ) (ends : Bool) (later : List (Reply R P T)) →
+  pub record Going (c : ConnView R P T) (s : State R P T) : Type 0 where
+    pub is : (more : List ℕ) (ends : Bool) (later : Replies R P T) →
         trace s.size (s.input ++ cond (hears c.stage c.ended) more []) (cond (hears c.stage c.ended) ends false || s.ended) (s.replies ++ later)
         ≡ s.past ++ left_of c more (ends || c.ended) later
 
   -- the tickets that were given, those that were parked or left, and the one that is held
-  abbrev pub tickets_in : List (Reply R P T) → List T
+  abbrev pub tickets_in : Replies R P T → List T
   tickets_in [] = []
   tickets_in (Entered ticket ∷ replies) = ticket ∷ tickets_in replies
   tickets_in (r ∷ replies) = tickets_in replies
 
-  abbrev pub spent_in : List (Need R P T) → List T
+  abbrev pub spent_in : Needs R P T → List T
   spent_in [] = []
   spent_in (Park ticket life half ∷ past) = ticket ∷ spent_in past
   spent_in (Leave ticket ∷ past) = ticket ∷ spent_in past
@@ -124,23 +129,23 @@ module _ {R P T : Type 0} where
   held_at stage = []
 
   -- it goes on as the definition does, and holds the ticket that is open
-  pub record Plain (c : Held R P T) (s : State R P T) : Type 0 where
+  pub record Plain (c : ConnView R P T) (s : State R P T) : Type 0 where
     pub going : Going c s
     pub tickets : tickets_in s.replies ≡ spent_in s.past ++ held_at c.stage
     pub ended : c.ended ≡ s.ended
 
   -- A broken trace: a front of the trace, then each ticket that is open is left, the frame of status 13 is written,
   -- and that is the end
-  pub record IsBroken (whole : List (Need R P T)) (replies : List (Reply R P T)) (needs : List (Need R P T)) : Type 0 where
-    pub front : List (Need R P T)
-    pub rest : List (Need R P T)
+  pub record IsBroken (whole : Needs R P T) (replies : Replies R P T) (needs : Needs R P T) : Type 0 where
+    pub front : Needs R P T
+    pub rest : Needs R P T
     pub whole_is : whole ≡ front ++ rest
-    pub is : needs ≡ front ++ (map Leave (drop (length (spent_in front)) (tickets_in replies)) ++ Write (disconnect 13) ∷ Close (closings.Ended 13) ∷ [])
+    pub is : needs ≡ front ++ (map Leave (drop (length (spent_in front)) (tickets_in replies)) ++ Write (disconnect NO_MEMORY) ∷ Close (closings.Ended NO_MEMORY) ∷ [])
 
   -- what is left of one
-  abbrev pub ending : Stage R P T → List (Need R P T)
-  ending (at.LastLeave ticket) = Leave ticket ∷ Write (disconnect 13) ∷ Close (closings.Ended 13) ∷ []
-  ending at.LastWrite = Write (disconnect 13) ∷ Close (closings.Ended 13) ∷ []
+  abbrev pub ending : Stage R P T → Needs R P T
+  ending (at.LastLeave ticket) = Leave ticket ∷ Write (disconnect NO_MEMORY) ∷ Close (closings.Ended NO_MEMORY) ∷ []
+  ending at.LastWrite = Write (disconnect NO_MEMORY) ∷ Close (closings.Ended NO_MEMORY) ∷ []
   ending (at.Close how) = Close how ∷ []
   ending stage = []
 
@@ -150,17 +155,17 @@ module _ {R P T : Type 0} where
   IsEnding (at.Close how) = Unit {0}
   IsEnding stage = ⊥
 
-  pub record Broken (c : Held R P T) (s : State R P T) : Type 0 where
+  pub record Broken (c : ConnView R P T) (s : State R P T) : Type 0 where
     pub trace_is : IsBroken (trace s.size s.input s.ended s.replies) s.replies (s.past ++ ending c.stage)
     pub ending_is : IsEnding c.stage
 
   -- whole, or broken by want of memory
-  abbrev pub StandsAs : Bool → Held R P T → State R P T → Type 0
+  abbrev pub StandsAs : Bool → ConnView R P T → State R P T → Type 0
   StandsAs false c s = Plain c s
   StandsAs true c s = Broken c s
 
   -- it waits for bytes only where no head is whole and more may come
-  abbrev pub Waits : Stage R P T → Held R P T → Type 0
+  abbrev pub Waits : Stage R P T → ConnView R P T → Type 0
   Waits at.Bytes c = (head_of (limit_of c.size c.agreed) c.unread ≡ NotYet) × (c.ended ≡ false)
   Waits (at.LastLeave ticket) c = c.broken ≡ true
   Waits at.LastWrite c = c.broken ≡ true
@@ -174,7 +179,7 @@ module _ {R P T : Type 0} where
   Waits stage c = Unit {0}
 
   -- between two calls
-  pub record Stands (c : Held R P T) (s : State R P T) : Type 0 where
+  pub record Stands (c : ConnView R P T) (s : State R P T) : Type 0 where
     pub waits : Waits c.stage c
     pub stands : StandsAs c.broken c s
 
@@ -187,9 +192,16 @@ module _ {R P T : Type 0} where
   IsTaken (at.Finishing id) = Unit {0}
   IsTaken stage = ⊥
 
-  pub record Taken (c : Held R P T) (s : State R P T) : Type 0 where
+  pub record Taken (c : ConnView R P T) (s : State R P T) : Type 0 where
     pub taken : IsTaken c.stage
     pub stands : StandsAs c.broken c s
+
+  -- it is still to be answered, as it was; or out of memory for a piece of the input, and then it can't be
+  abbrev pub StillTaken : ConnView R P T → ConnView R P T → State R P T → Type 0
+  StillTaken c d s = (d.stage ≡ c.stage) × (d.broken ≡ false) × Taken d s
+
+  abbrev pub TakenOrLost : ConnView R P T → ConnView R P T → State R P T → Type 0
+  TakenOrLost c d s = StillTaken c d s ⊎ ((d.broken ≡ true) × Stands d s)
 
   -- the trace ends in Bytes, and the input has not ended
   pub record WaitsForBytes (s : State R P T) : Type 0 where
@@ -197,7 +209,7 @@ module _ {R P T : Type 0} where
     pub trace_is : trace s.size s.input s.ended s.replies ≡ s.past ++ Bytes ∷ []
 
   -- How it ends: as the definition does, and where the input has not ended so whatever comes; or as a broken trace of it
-  pub record Closes (c : Held R P T) (s : State R P T) (how : closing.Closing) : Type 0 where
+  pub record Closes (c : ConnView R P T) (s : State R P T) (how : closing.Closing) : Type 0 where
     pub plain : c.broken ≡ false → trace s.size s.input s.ended s.replies ≡ s.past ++ Close how ∷ []
     pub whatever : c.broken ≡ false → s.ended ≡ false → (more : List ℕ) (ends : Bool) → trace s.size (s.input ++ more) ends s.replies ≡ s.past ++ Close how ∷ []
     pub broke : c.broken ≡ true → IsBroken (trace s.size s.input s.ended s.replies) s.replies (s.past ++ Close how ∷ [])
@@ -207,14 +219,14 @@ module _ {R P T : Type 0} where
   is_open (at.Close how) = false
   is_open stage = true
 
-  abbrev pub listens : Held R P T → Bool
+  abbrev pub listens : ConnView R P T → Bool
   listens c = cond c.broken false (is_open c.stage)
 
   -- the input grows, or has ended
-  abbrev pub fed : Held R P T → List ℕ → State R P T → State R P T
+  abbrev pub fed : ConnView R P T → List ℕ → State R P T → State R P T
   fed c piece s = cond (listens c) (record { size = s.size; input = s.input ++ piece; ended = s.ended; replies = s.replies; past = s.past }) s
 
-  abbrev pub shut : Held R P T → State R P T → State R P T
+  abbrev pub shut : ConnView R P T → State R P T → State R P T
   shut c s = cond (listens c) (record { size = s.size; input = s.input; ended = true; replies = s.replies; past = s.past }) s
 
   -- A bound on the calls until it needs bytes or closes: sixteen for each unread byte and each message that is left, and
@@ -242,5 +254,5 @@ module _ {R P T : Type 0} where
   rank at.LastWrite = 1
   rank (at.Close how) = 0
 
-  abbrev pub calls_left : Held R P T → ℕ
+  abbrev pub calls_left : ConnView R P T → ℕ
   calls_left c = 16 * (length c.unread + length c.left) + rank c.stage

@@ -4,6 +4,7 @@ use Rattle.std.specs.Str.{bytes_eq}
 use Rattle.spop_data.specs.declared.value.Pair.{Pair}
 use Rattle.spop_frame.specs.Head.{Head, NotYet, Bad, Whole, head_of}
 use Rattle.spop_frame.specs.declared.frame.Frame.{Frame}
+use Rattle.spop_frame.specs.declared.kind.TheConstants.{HAPROXY_HELLO, HAPROXY_DISCONNECT, NOTIFY, AGENT_HELLO, AGENT_DISCONNECT, ACK}
 use Rattle.spop_hello.specs.Frames.{agent_hello, disconnect}
 use Rattle.spop_hello.specs.Terms.{terms_of}
 use Rattle.spop_hello.specs.declared.terms.Terms.{Terms}
@@ -28,6 +29,7 @@ use Rattle.conn_core.specs.declared.need.Closing as closing
 use Rattle.conn_core.specs.declared.need.Closing.TheVariants as closings
 use Rattle.conn_core.specs.declared.outcome.Outcome.TheVariants as outcomes
 use Rattle.conn_core.specs.declared.stage.Hold.{Hold}
+use Rattle.conn_core.specs.declared.status.TheConstants.{INVALID, NORMAL, NOT_PARKED, TOO_BIG, UNKNOWN_APP}
 use Rattle.conn_core.specs.Outcome.{actions_of}
 
 -- R is what stands for a set of rules, P a request that is half judged, T a ticket
@@ -56,6 +58,23 @@ pub data Reply (R P T : Type 0) : Type 0 where
   NotParked : Reply R P T
   Ended : Option Verdict → Reply R P T
 
+-- the needs that come, the replies that are left, and what comes after a message with its actions
+abbrev pub Needs : Type 0 → Type 0 → Type 0 → Type 0
+Needs R P T = List (Need R P T)
+
+abbrev pub Replies : Type 0 → Type 0 → Type 0 → Type 0
+Replies R P T = List (Reply R P T)
+
+abbrev pub Next : Type 0 → Type 0 → Type 0 → Type 0
+Next R P T = List Action → Replies R P T → Needs R P T
+
+-- the messages that are answered, by their names
+abbrev pub request_name : List ℕ
+request_name = codes "coraza-req"
+
+abbrev pub response_name : List ℕ
+response_name = codes "coraza-res"
+
 -- the actions of a message with that identifier: an error, or what a judgement gave
 abbrev pub failed : List ℕ → ℕ → List Action
 failed id error = actions_of (Some id) (outcomes.Failed error)
@@ -69,7 +88,7 @@ refused args bad = actions_of (identifier_in (given arguments.Id args)) (outcome
 
 -- the types of an offer and of what agents send
 abbrev pub is_misplaced : ℕ → Bool
-is_misplaced kind = (kind == 1) || (kind == 101) || (kind == 102) || (kind == 103)
+is_misplaced kind = (kind == HAPROXY_HELLO) || (kind == AGENT_HELLO) || (kind == AGENT_DISCONNECT) || (kind == ACK)
 
 -- the longest frame that is taken, before HELLO and behind it
 abbrev pub limit_of : ℕ → Option ℕ → ℕ
@@ -80,11 +99,11 @@ limit_of size (Some agreed) = agreed
 -- that are left. Where no reply is left, or one of another kind, the needs end with the one that waits.
 module _ {R P T : Type 0} where
   -- the agent leaves with that status
-  abbrev pub refuse : ℕ → List (Need R P T)
+  abbrev pub refuse : ℕ → Needs R P T
   refuse status = Write (disconnect status) ∷ Close (closings.Ended status) ∷ []
 
   -- a request that is being judged, with what it holds where it entered the table
-  abbrev pub begun : List ℕ → Option (Hold T) → (List Action → List (Reply R P T) → List (Need R P T)) → List (Reply R P T) → List (Need R P T)
+  abbrev pub begun : List ℕ → Option (Hold T) → Next R P T → Replies R P T → Needs R P T
   begun id (Some entry) k (Interrupted verdict ∷ later) = Leave entry.ticket ∷ k (judged id (Some verdict)) later
   begun id (Some entry) k (Goes half ∷ later) = Park entry.ticket entry.life half ∷ k (judged id None) later
   begun id None k (Interrupted verdict ∷ later) = k (judged id (Some verdict)) later
@@ -92,102 +111,102 @@ module _ {R P T : Type 0} where
   begun id entry k other = []
 
   -- one that enters the table
-  abbrev pub entered : List ℕ → Request → R → ℕ → (List Action → List (Reply R P T) → List (Need R P T)) → List (Reply R P T) → List (Need R P T)
+  abbrev pub entered : List ℕ → Request → R → ℕ → Next R P T → Replies R P T → Needs R P T
   entered id request rules life k (Entered ticket ∷ later) =
       Begin rules request ∷ begun id (Some (record { ticket = ticket; life = life })) k later
   entered id request rules life k (Refused error ∷ later) = k (failed id error) later
   entered id request rules life k other = []
 
   -- one whose application is looked for; it enters the table where responses are judged
-  abbrev pub looked : List ℕ → Key → Request → (List Action → List (Reply R P T) → List (Need R P T)) → List (Reply R P T) → List (Need R P T)
-  looked id key request k (UnknownApp ∷ later) = k (failed id 1) later
+  abbrev pub looked : List ℕ → Key → Request → Next R P T → Replies R P T → Needs R P T
+  looked id key request k (UnknownApp ∷ later) = k (failed id UNKNOWN_APP) later
   looked id key request k (Found rules settings ∷ later) =
       if settings.responses then Enter key ∷ entered id request rules settings.life k later
       else Begin rules request ∷ begun id None k later
   looked id key request k other = []
 
-  abbrev pub asked : Asked → (List Action → List (Reply R P T) → List (Need R P T)) → List (Reply R P T) → List (Need R P T)
+  abbrev pub asked : Asked → Next R P T → Replies R P T → Needs R P T
   asked a k replies = Look a.app ∷ looked a.request.id (record { app = a.app; id = a.request.id }) a.request k replies
 
-  abbrev pub request : Option Arg → List Pair → (List Action → List (Reply R P T) → List (Need R P T)) → List (Reply R P T) → List (Need R P T)
+  abbrev pub request : Option Arg → List Pair → Next R P T → Replies R P T → Needs R P T
   request (Some bad) args k replies = k (refused args bad) replies
   request None args k replies = asked (asked_of args) k replies
 
   -- a response that is being judged
-  abbrev pub finished : List ℕ → (List Action → List (Reply R P T) → List (Need R P T)) → List (Reply R P T) → List (Need R P T)
+  abbrev pub finished : List ℕ → Next R P T → Replies R P T → Needs R P T
   finished id k (Ended verdict ∷ later) = k (judged id verdict) later
   finished id k other = []
 
   -- one whose request is looked for
-  abbrev pub resumed : List ℕ → Response → (List Action → List (Reply R P T) → List (Need R P T)) → List (Reply R P T) → List (Need R P T)
-  resumed id response k (NotParked ∷ later) = k (failed id 4) later
+  abbrev pub resumed : List ℕ → Response → Next R P T → Replies R P T → Needs R P T
+  resumed id response k (NotParked ∷ later) = k (failed id NOT_PARKED) later
   resumed id response k (Resumed half ∷ later) = Finish half response ∷ finished id k later
   resumed id response k other = []
 
-  abbrev pub told : Told → (List Action → List (Reply R P T) → List (Need R P T)) → List (Reply R P T) → List (Need R P T)
+  abbrev pub told : Told → Next R P T → Replies R P T → Needs R P T
   told t k replies = Resume (record { app = t.app; id = t.id }) ∷ resumed t.id t.response k replies
 
-  abbrev pub response : Option Arg → List Pair → (List Action → List (Reply R P T) → List (Need R P T)) → List (Reply R P T) → List (Need R P T)
+  abbrev pub response : Option Arg → List Pair → Next R P T → Replies R P T → Needs R P T
   response (Some bad) args k replies = k (refused args bad) replies
   response None args k replies = told (told_of args) k replies
 
   -- a message, by its name; one of another name is passed over
-  abbrev pub message : Message → (List Action → List (Reply R P T) → List (Need R P T)) → List (Reply R P T) → List (Need R P T)
+  abbrev pub message : Message → Next R P T → Replies R P T → Needs R P T
   message m k replies =
-      if bytes_eq m.name (codes "coraza-req") then request (first_bad request_rules m.args) m.args k replies
-      else (if bytes_eq m.name (codes "coraza-res") then response (first_bad response_rules m.args) m.args k replies
+      if bytes_eq m.name request_name then request (first_bad request_rules m.args) m.args k replies
+      else (if bytes_eq m.name response_name then response (first_bad response_rules m.args) m.args k replies
       else k [] replies)
 
   -- the messages of a NOTIFY, after those that gave these actions
-  abbrev pub messages : List Message → List Action → (List Action → List (Reply R P T) → List (Need R P T)) → List (Reply R P T) → List (Need R P T)
+  abbrev pub messages : List Message → List Action → Next R P T → Replies R P T → Needs R P T
   messages [] actions k replies = k actions replies
   messages (m ∷ ms) actions k replies = message m (λ more later. messages ms (actions ++ more) k later) replies
 
   -- its ACK, which has to keep to the limit
-  abbrev pub answer : ℕ → ℕ → ℕ → (List (Reply R P T) → List (Need R P T)) → List Action → List (Reply R P T) → List (Need R P T)
+  abbrev pub answer : ℕ → ℕ → ℕ → (Replies R P T → Needs R P T) → List Action → Replies R P T → Needs R P T
   answer limit stream frame k actions replies =
-      if nat_lt limit (length (ack_body stream frame actions)) then refuse 3 else Write (ack stream frame actions) ∷ k replies
+      if nat_lt limit (length (ack_body stream frame actions)) then refuse TOO_BIG else Write (ack stream frame actions) ∷ k replies
 
-  abbrev pub notify : ℕ → Frame → (List (Reply R P T) → List (Need R P T)) → Option (List Message) → List (Reply R P T) → List (Need R P T)
-  notify limit f k None replies = refuse 4
+  abbrev pub notify : ℕ → Frame → (Replies R P T → Needs R P T) → Option (List Message) → Replies R P T → Needs R P T
+  notify limit f k None replies = refuse INVALID
   notify limit f k (Some ms) replies = messages ms [] (answer limit f.stream f.frame k) replies
 
   -- HAProxy's offer; a health check ends with the answer
-  abbrev pub greeted : (ℕ → List (Need R P T)) → Result Terms ℕ → List (Need R P T)
+  abbrev pub greeted : (ℕ → Needs R P T) → Result Terms ℕ → Needs R P T
   greeted k (Err status) = refuse status
   greeted k (Ok terms) = Write (agent_hello terms) ∷ (if terms.check then Close closings.Done ∷ [] else k terms.size)
 
   -- a frame before HELLO and one behind it, by its type
-  abbrev pub any_frame : ℕ → Option ℕ → (Option ℕ → List (Reply R P T) → List (Need R P T)) → Frame → List (Reply R P T) → List (Need R P T)
+  abbrev pub any_frame : ℕ → Option ℕ → (Option ℕ → Replies R P T → Needs R P T) → Frame → Replies R P T → Needs R P T
   any_frame size None k f replies =
-      if f.kind == 2 then Write (disconnect 0) ∷ Close closings.Done ∷ []
-      else (if f.kind == 1 then greeted (λ agreed. k (Some agreed) replies) (terms_of size f.payload) else refuse 4)
+      if f.kind == HAPROXY_DISCONNECT then Write (disconnect NORMAL) ∷ Close closings.Done ∷ []
+      else (if f.kind == HAPROXY_HELLO then greeted (λ agreed. k (Some agreed) replies) (terms_of size f.payload) else refuse INVALID)
   any_frame size (Some agreed) k f replies =
-      if f.kind == 2 then Write (disconnect 0) ∷ Close closings.Done ∷ []
-      else (if f.kind == 3 then notify agreed f (k (Some agreed)) (messages_of f.payload) replies
-      else (if is_misplaced f.kind then refuse 4 else k (Some agreed) replies))
+      if f.kind == HAPROXY_DISCONNECT then Write (disconnect NORMAL) ∷ Close closings.Done ∷ []
+      else (if f.kind == NOTIFY then notify agreed f (k (Some agreed)) (messages_of f.payload) replies
+      else (if is_misplaced f.kind then refuse INVALID else k (Some agreed) replies))
 
   -- where no frame is whole
-  abbrev pub at_end : Bool → List ℕ → List (Need R P T)
+  abbrev pub at_end : Bool → List ℕ → Needs R P T
   at_end false unread = Bytes ∷ []
   at_end true [] = Close closings.Done ∷ []
   at_end true (b ∷ bytes) = Close closings.CutShort ∷ []
 
-  abbrev pub at_head : ℕ → Option ℕ → (List ℕ → Option ℕ → List (Reply R P T) → List (Need R P T)) → Bool → List ℕ → Head → List (Reply R P T) → List (Need R P T)
+  abbrev pub at_head : ℕ → Option ℕ → (List ℕ → Option ℕ → Replies R P T → Needs R P T) → Bool → List ℕ → Head → Replies R P T → Needs R P T
   at_head size agreed k ended unread NotYet replies = at_end ended unread
   at_head size agreed k ended unread (Bad status) replies = refuse status
   at_head size agreed k ended unread (Whole f rest) replies = any_frame size agreed (k rest) f replies
 
   -- the frames of what is unread, at most so many
-  abbrev pub frames : ℕ → ℕ → Option ℕ → List ℕ → Bool → List (Reply R P T) → List (Need R P T)
+  abbrev pub frames : ℕ → ℕ → Option ℕ → List ℕ → Bool → Replies R P T → Needs R P T
   frames zero size agreed unread ended replies = []
   frames (suc most) size agreed unread ended replies =
       at_head size agreed (λ rest now later. frames most size now rest ended later) ended unread (head_of (limit_of size agreed) unread) replies
 
   -- all of them: each takes a byte at least
-  abbrev pub onward : ℕ → Option ℕ → List ℕ → Bool → List (Reply R P T) → List (Need R P T)
-  onward size agreed unread ended replies = frames (suc (length unread)) size agreed unread ended replies
+  abbrev pub needs_from : ℕ → Option ℕ → List ℕ → Bool → Replies R P T → Needs R P T
+  needs_from size agreed unread ended replies = frames (suc (length unread)) size agreed unread ended replies
 
   -- the needs, in order, of an agent that offers this size, over its whole input, which has ended or not
-  unfoldable pub trace : ℕ → List ℕ → Bool → List (Reply R P T) → List (Need R P T)
-  trace size input ended replies = onward size None input ended replies
+  unfoldable pub trace : ℕ → List ℕ → Bool → Replies R P T → Needs R P T
+  trace size input ended replies = needs_from size None input ended replies

@@ -1,15 +1,17 @@
-ghost use Rattle.std.specs.Prelude.{◌≡◌, true, IfOk, Option, Some};
+ghost use Rattle.std.specs.Prelude.{◌≡◌, IfOk, Option, option_to_list, Some, true};
+ghost use Rattle.conn_core.specs.Between.{IsBlank, starved};
 ghost use Rattle.conn_core.specs.Calls.{At, closing_of, kind_at};
-ghost use Rattle.conn_core.specs.Stands.{Closes, listens, opening, Stands, State, WaitsForBytes};
+ghost use Rattle.conn_core.specs.Stands.{Closes, held_at, listens, opening, Stands, State, ticket_of, WaitsForBytes};
 
 use crate::farewell::Farewell;
-use crate::stage::Stage;
+use crate::stage::{Hold, Stage};
 use crate::{Closing, Need};
 use spop_frame::Framer;
 use spop_talk::{Action, Message};
 use std::alloc::Global;
 use std::collections::VecDeque;
 use std::marker::Model;
+use std::mem;
 use waf_plain::{NoMemory, Seq};
 
 /// One connection, as the agent's side of it. `R` is what stands for a set of rules, `P` a request
@@ -37,11 +39,14 @@ pub struct Conn<R, P, T> {
 }
 
 impl<R, P, T> Model for Conn<R, P, T> {
-    ghost use Rattle.conn_core.specs.Stands.{Held};
+    ghost use Rattle.conn_core.specs.Stands.{ConnView};
 
-    ghost Value = { Held R P T };
+    ghost Value = { ConnView R P T };
 
-    ghost view = { λ c. record { size = c.size; agreed = c.agreed; unread = c.framer.bytes; ended = c.ended; stage = c.stage; stream = c.stream; frame = c.frame; left = c.left.items; actions = c.actions; broken = c.broken } };
+    ghost view = { λ c. record {
+        size = c.size; agreed = c.agreed; unread = c.framer.bytes; ended = c.ended; stage = c.stage;
+        stream = c.stream; frame = c.frame; left = c.left.items; actions = c.actions; broken = c.broken
+    } };
 }
 
 impl<R, P, T> Conn<R, P, T> {
@@ -102,11 +107,150 @@ impl<R, P, T> Conn<R, P, T> {
     /// How it closes, exactly at Close. It takes no memory.
     pub fn closing(&self) -> Option<Closing>
         ensures at { result ≡ closing_of self.now.stage }
-        ensures trace { (s : State R P T) → Stands self.now s → (how : _) → result ≡ Some how → Closes self.now s how }
+        ensures trace { (s : State R P T) → Stands self.now s → (how : _) → result ≡ Some how
+            → Closes self.now s how }
     {
         match &self.stage {
             Stage::Close(closing) => Some(*closing),
             _ => None,
         }
+    }
+
+    // Goes to a stage from one that holds nothing.
+    pub(crate) fn set(&mut self, stage: Stage<R, P, T>)
+        requires { IsBlank self.old.stage }
+        ensures { self.new ≡ record self.old { stage = stage } }
+    {
+        match mem::replace(&mut self.stage, stage) {
+            Stage::Bytes | Stage::Ready => {}
+            _ => unreachable!(),
+        }
+    }
+
+    // Out of memory, with no ticket held.
+    pub(crate) fn out_of_memory(&mut self)
+        requires { IsBlank self.old.stage }
+        ensures { self.new ≡ starved self.old }
+    {
+        self.broken = true;
+        self.set(Stage::LastWrite);
+    }
+}
+
+impl<R: Drop, P: Drop, T> Conn<R, P, T> {
+    /// Lets the connection go, and hands out the ticket that it holds, which is to be given back. After
+    /// Close it holds none.
+    pub fn let_go(self) -> Option<T>
+        ensures { option_to_list result ≡ held_at self.stage }
+    {
+        let Conn { stage, .. } = self;
+        ticket_in(stage)
+    }
+}
+
+// The ticket that a stage holds; all else is let go.
+pub(crate) fn ticket_in<R: Drop, P: Drop, T>(stage: Stage<R, P, T>) -> Option<T>
+    ensures { option_to_list result ≡ held_at stage }
+{
+    match stage {
+        Stage::Bytes | Stage::Ready | Stage::LastWrite | Stage::Close(_) => None,
+        Stage::Framed(frame) => {
+            drop(frame);
+            None
+        }
+        Stage::Look { id, key, request } => {
+            drop((id, key, request));
+            None
+        }
+        Stage::Enter {
+            id,
+            key,
+            request,
+            rules,
+            life: _,
+        } => {
+            drop((id, key, request));
+            drop(rules);
+            None
+        }
+        Stage::Entering {
+            id,
+            request,
+            rules,
+            life: _,
+        } => {
+            drop((id, request));
+            drop(rules);
+            None
+        }
+        Stage::Begin {
+            id,
+            request,
+            rules,
+            hold,
+        } => {
+            drop((id, request));
+            drop(rules);
+            ticket_of(hold)
+        }
+        Stage::Begun { id, hold } => {
+            drop(id);
+            ticket_of(hold)
+        }
+        Stage::Park { id, hold, half } => {
+            drop(id);
+            drop(half);
+            let Hold { ticket, life: _ } = hold;
+            Some(ticket)
+        }
+        Stage::Leave {
+            id,
+            ticket,
+            verdict,
+        } => {
+            drop((id, verdict));
+            Some(ticket)
+        }
+        Stage::LastLeave(ticket) => Some(ticket),
+        Stage::Retire { id, half } => {
+            drop(id);
+            drop(half);
+            None
+        }
+        Stage::Retiring(id) => {
+            drop(id);
+            None
+        }
+        Stage::Resume { id, key, response } => {
+            drop((id, key, response));
+            None
+        }
+        Stage::Resuming { id, response } => {
+            drop((id, response));
+            None
+        }
+        Stage::Finish { id, half, response } => {
+            drop((id, response));
+            drop(half);
+            None
+        }
+        Stage::Finishing(id) => {
+            drop(id);
+            None
+        }
+        Stage::Write { bytes, then: _ } => {
+            drop(bytes);
+            None
+        }
+    }
+}
+
+// The ticket that is held.
+fn ticket_of<T>(hold: Option<Hold<T>>) -> Option<T>
+    ensures { result ≡ ticket_of hold }
+{
+    match hold {
+        Some(Hold { ticket, life: _ }) => Some(ticket),
+        None => None,
     }
 }

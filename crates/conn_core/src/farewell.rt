@@ -1,6 +1,8 @@
 ghost use Rattle.std.specs.Prelude.{◌≡◌, IfOk};
 ghost use Rattle.spop_hello.specs.Frames.{disconnect};
+ghost use Rattle.conn_core.specs.declared.status.TheConstants.{NO_MEMORY};
 
+use crate::status;
 use spop_hello::disconnect_frame;
 use std::alloc::Global;
 use std::marker::Model;
@@ -15,25 +17,26 @@ pub(crate) struct Farewell {
 impl Model for Farewell {
     ghost use Rattle.std.specs.Prelude.{◌≡◌, List, ℕ};
     ghost use Rattle.spop_hello.specs.Frames.{disconnect};
+    ghost use Rattle.conn_core.specs.declared.status.TheConstants.{NO_MEMORY};
 
     ghost Value = { List ℕ };
 
     ghost view = { λ f. f.bytes };
 
-    ghost invariant = { λ f. f.bytes ≡ disconnect 13 };
+    ghost invariant = { λ f. f.bytes ≡ disconnect NO_MEMORY };
 }
 
 impl Farewell {
     pub(crate) fn new(alloc: Global) -> Result<Farewell, NoMemory>
-        ensures { IfOk result (λ farewell. farewell ≡ disconnect 13) }
+        ensures { IfOk result (λ farewell. farewell ≡ disconnect NO_MEMORY) }
     {
         let mut bytes = Bytes::new(alloc);
-        disconnect_frame(alloc, 13, &mut bytes)?;
+        disconnect_frame(alloc, status::NO_MEMORY, &mut bytes)?;
         Ok(Farewell { bytes })
     }
 
     pub(crate) fn as_slice(&self) -> &[u8]
-        ensures { result.now ≡ disconnect 13 }
+        ensures { result.now ≡ disconnect NO_MEMORY }
     {
         self.bytes.as_slice()
     }

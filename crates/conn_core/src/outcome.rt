@@ -1,6 +1,8 @@
 ghost use Rattle.std.specs.Prelude.{◌≡◌, ◌++◌, OnOk};
-ghost use Rattle.conn_core.specs.Outcome.{act_actions, actions_of, done_actions, id_actions, number_action, text_action, verdict_actions};
+ghost use Rattle.conn_core.specs.Outcome.{act_actions, actions_of, done_actions, id_actions, number_action};
+ghost use Rattle.conn_core.specs.Outcome.{text_action, verdict_actions};
 
+use crate::status;
 use sec_ast::{Verdict, VerdictAct};
 use spop_data::Data;
 use spop_talk::Action;
@@ -37,7 +39,7 @@ pub(crate) fn add_outcome(
         Outcome::Bad(arg) => {
             let name = Bytes::copy(alloc, arg.name())?;
             add_text(alloc, b"data", name, actions)?;
-            add_number(alloc, b"error", 5, actions)
+            add_number(alloc, b"error", status::BAD_ARGUMENT, actions)
         }
     }
 }

@@ -1,6 +1,6 @@
-use Rattle.std.proofs.Common.{◌≡◌, true, false, arith, length-append}
+use Rattle.std.proofs.Common.{◌≡◌, inl, true, false, arith, length-append}
 use Rattle.conn_core.specs.Stands.{is_open}
-use Rattle.conn_core.proofs.Served.{fed_broken, fed_plain, fed_waiting, open_at, plain_when}
+use Rattle.conn_core.proofs.Served.{fed_broken, fed_plain, fed_taken, fed_waiting, open_at, plain_when}
 use Rattle.conn_core.proofs.conn.Conn.feed.Goals as goal
 
 pub returns-in-Bytes-clause-next : goal.returns-in-Bytes-clause-next
@@ -14,3 +14,6 @@ returns-in_default-feed-clause-next g c = λ s h. let b : c.args.self.now.broken
 
 pub returns-in_default-stage-clause-fewer : goal.returns-in_default-stage-clause-fewer
 returns-in_default-stage-clause-fewer g c = rw (← c.self.view_is, c.in-Ok.ensures.ok) (omega (arith, length-append c.self.inside.framer.bytes c.args.piece.now))
+
+pub returns-in_default-stage-clause-taken : goal.returns-in_default-stage-clause-taken
+returns-in_default-stage-clause-taken g c = λ s h. inl (let x = fed_taken c.args.self.now s c.args.piece.now h in rw (← c.self.view_is) (rw c.in-Ok.ensures.ok (rw (← c.self.view_is) at x)))

@@ -19,4 +19,4 @@ pub returns-in-Goes-answer-clause-next : goal.returns-in-Goes-answer-clause-next
 returns-in-Goes-answer-clause-next g c = λ s h. let h2 = rw (← c.self.view_is) at h in (rw (c.set-in-Goes-answer.ensures, c.in-Goes-answer.is) (goes_alone _ s c.in-Begun.id c.in-Goes-answer.half (rw c.in-None.is at (sym c.in-Begun.ensures.value)) h2))
 
 pub returns-in-NoMemory-answer-clause-next : goal.returns-in-NoMemory-answer-clause-next
-returns-in-NoMemory-answer-clause-next g c = λ s h. let h2 = rw (← c.self.view_is) at h in (rw (c.fall.ensures, c.in-NoMemory-answer.is) (fell _ s (at.Begun c.in-Begun.id _) (rw c.in-None.is at (sym c.in-Begun.ensures.value)) (λ x. x) refl h2.stands))
+returns-in-NoMemory-answer-clause-next g c = λ s h. let h2 = rw (← c.self.view_is) at h in (rw (c.out_of_memory.ensures, c.in-NoMemory-answer.is) (fell _ s (at.Begun c.in-Begun.id _) (rw c.in-None.is at (sym c.in-Begun.ensures.value)) (λ x. x) refl h2.stands))

@@ -13,4 +13,4 @@ pub returns-in-UnknownApp-clause-next : goal.returns-in-UnknownApp-clause-next
 returns-in-UnknownApp-clause-next g c = λ s h. let h2 = rw (← c.self.view_is) at h in (rw (c.in-UnknownApp.is, ← c.self.view_is, ← c.in-Look.ensures.value) (c.outcome.ensures.next _ (looked_unknown _ s c.in-Look.id c.in-Look.key c.in-Look.request (sym c.in-Look.ensures.value) h2)))
 
 pub returns-in-NoMemory-clause-next : goal.returns-in-NoMemory-clause-next
-returns-in-NoMemory-clause-next g c = λ s h. let h2 = rw (← c.self.view_is) at h in (rw (c.fall.ensures, c.in-NoMemory.is) (fell _ s (at.Look c.in-Look.id c.in-Look.key c.in-Look.request) (sym c.in-Look.ensures.value) (λ x. x) refl h2.stands))
+returns-in-NoMemory-clause-next g c = λ s h. let h2 = rw (← c.self.view_is) at h in (rw (c.out_of_memory.ensures, c.in-NoMemory.is) (fell _ s (at.Look c.in-Look.id c.in-Look.key c.in-Look.request) (sym c.in-Look.ensures.value) (λ x. x) refl h2.stands))

@@ -7,4 +7,4 @@ pub returns-then-memory-clause-next : goal.returns-then-memory-clause-next
 returns-then-memory-clause-next g c = λ s h. let h2 = rw (← c.self.view_is) at h in (c.outcome.ensures.next _ (retired _ s _ (sym c.in-Retiring.ensures.value) h2))
 
 pub returns-else-memory-clause-next : goal.returns-else-memory-clause-next
-returns-else-memory-clause-next g c = λ s h. let h2 = rw (← c.self.view_is) at h in (rw c.fall.ensures (fell _ s (at.Retiring c.in-Retiring.id) (sym c.in-Retiring.ensures.value) (λ x. x) refl h2.stands))
+returns-else-memory-clause-next g c = λ s h. let h2 = rw (← c.self.view_is) at h in (rw c.out_of_memory.ensures (fell _ s (at.Retiring c.in-Retiring.id) (sym c.in-Retiring.ensures.value) (λ x. x) refl h2.stands))

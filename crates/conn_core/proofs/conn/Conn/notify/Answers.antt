@@ -1,12 +1,12 @@
 use Rattle.std.proofs.Common.{◌≡◌, ◌+◌, ◌*◌, length, Some, refl, ◌∙◌, ap, arith}
 use Rattle.spop_talk.specs.Reading.{messages_of}
-use Rattle.conn_core.specs.Stands.{Held, calls_left}
+use Rattle.conn_core.specs.Stands.{ConnView, calls_left}
 use Rattle.conn_core.proofs.Heads.{few_messages}
 use Rattle.conn_core.proofs.Inner.{agreed_on, fallen, take_messages}
 use Rattle.conn_core.proofs.conn.Conn.notify.Goals as goal
 
 pub returns-in-Err-NoMemory-clause-next : goal.returns-in-Err-NoMemory-clause-next
-returns-in-Err-NoMemory-clause-next g c = λ s p. fallen _ _ s (rw c.fall.ensures refl) (rw c.fall.ensures refl) refl p
+returns-in-Err-NoMemory-clause-next g c = λ s p. fallen _ _ s (rw c.out_of_memory.ensures refl) (rw c.out_of_memory.ensures refl) refl p
 
 pub returns-clause-next : goal.returns-clause-next
 returns-clause-next g c = λ s p.
@@ -24,4 +24,4 @@ returns-clause-fewer g c =
     let items : c.from.result.items ≡ c.in-Ok.messages = c.from.ensures.0 ∙ c.into_vec.ensures in
     let few = few_messages c.args.frame.payload c.in-Ok.messages messages in
     let now : calls_left c.set.new.self ≡ 16 * (length c.self.inside.framer.bytes + length c.in-Ok.messages) + 5 = rw (c.set.ensures, items) refl in
-    omega (arith, c.go_on.ensures.fewer, now, few, ap (λ (h : Held g.row.R.Denot g.row.P.Denot g.row.T.Denot). length h.unread) c.self.view_is)
+    omega (arith, c.go_on.ensures.fewer, now, few, ap (λ (h : ConnView g.row.R.Denot g.row.P.Denot g.row.T.Denot). length h.unread) c.self.view_is)

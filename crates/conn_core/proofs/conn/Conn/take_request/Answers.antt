@@ -1,5 +1,5 @@
 use Rattle.std.proofs.Common.{◌∷◌, ap, refl}
-use Rattle.conn_core.specs.Stands.{Held}
+use Rattle.conn_core.specs.Stands.{ConnView}
 use Rattle.conn_core.proofs.Inner.{fallen, request_good}
 use Rattle.conn_core.proofs.conn.Conn.take_request.Goals as goal
 
@@ -11,8 +11,8 @@ pub returns-in-Err-Bad-clause-done : goal.returns-in-Err-Bad-clause-done
 returns-in-Err-Bad-clause-done g c = λ f s p.
     let new = c.add.ensures.err f in
     fallen (record c.args.self.now { left = c.args.message.now ∷ c.args.self.now.left }) c.add.new.self s
-    (ap (λ (h : Held g.row.R.Denot g.row.P.Denot g.row.T.Denot). h.stage) new) (ap (λ (h : Held g.row.R.Denot g.row.P.Denot g.row.T.Denot). h.broken) new) (rw c.requires.at refl) p
+    (ap (λ (h : ConnView g.row.R.Denot g.row.P.Denot g.row.T.Denot). h.stage) new) (ap (λ (h : ConnView g.row.R.Denot g.row.P.Denot g.row.T.Denot). h.broken) new) (rw c.requires.at refl) p
 
 pub returns-in-Err-NoMemory-clause-done : goal.returns-in-Err-NoMemory-clause-done
 returns-in-Err-NoMemory-clause-done g c = λ f s p.
-    fallen (record c.args.self.now { left = c.args.message.now ∷ c.args.self.now.left }) c.fall.new.self s (rw c.fall.ensures refl) (rw c.fall.ensures refl) (rw c.requires.at refl) p
+    fallen (record c.args.self.now { left = c.args.message.now ∷ c.args.self.now.left }) c.out_of_memory.new.self s (rw c.out_of_memory.ensures refl) (rw c.out_of_memory.ensures refl) (rw c.requires.at refl) p

@@ -1,6 +1,6 @@
 ghost use Rattle.std.specs.Prelude.{◌≡◌, ◌<◌, false, true};
-ghost use Rattle.conn_core.specs.Calls.{claim_of, ended_with, IsFinish, IsFinishing, IsResuming};
-ghost use Rattle.conn_core.specs.Stands.{calls_left, replied, served, Stands, State, Taken};
+ghost use Rattle.conn_core.specs.Calls.{ended_with, IsFinish, IsFinishing};
+ghost use Rattle.conn_core.specs.Stands.{calls_left, served, Stands, State, Taken};
 ghost use Rattle.conn_core.specs.Trace.{Finish};
 
 use crate::outcome::Outcome;
@@ -10,22 +10,6 @@ use std::mem;
 use web_parts::Response;
 
 impl<R, P, T> Conn<R, P, T> {
-    /// The answer to Resume, after its key was taken: what was parked under it.
-    pub fn give_claim(&mut self, answer: Option<P>)
-        requires at { IsResuming self.old.stage }
-        requires whole { self.old.broken ≡ false }
-        ensures next { (s : State R P T) → Taken self.old s → Stands self.new (replied (claim_of answer) s) }
-        ensures fewer { calls_left self.new < calls_left self.old }
-    {
-        match mem::replace(&mut self.stage, Stage::Bytes) {
-            Stage::Resuming { id, response } => match answer {
-                Some(half) => self.set(Stage::Finish { id, half, response }),
-                None => self.outcome(id, Outcome::Failed(4)),
-            },
-            _ => unreachable!(),
-        }
-    }
-
     /// At Finish what was parked, and the response that is to be judged with it.
     pub fn take_finish(&mut self) -> (P, Response)
         requires at { IsFinish self.old.stage }
@@ -57,7 +41,7 @@ impl<R, P, T> Conn<R, P, T> {
                     None => self.outcome(id, Outcome::Passed),
                     Some(verdict) => self.outcome(id, Outcome::Stopped(verdict)),
                 },
-                EndedAnswer::NoMemory => self.fall(),
+                EndedAnswer::NoMemory => self.out_of_memory(),
             },
             _ => unreachable!(),
         }

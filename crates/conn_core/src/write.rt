@@ -4,6 +4,7 @@ ghost use Rattle.conn_core.specs.Stands.{calls_left, served, Stands, State};
 ghost use Rattle.conn_core.specs.Trace.{Write};
 
 use crate::stage::Stage;
+use crate::status;
 use crate::{Closing, Conn};
 use std::mem;
 
@@ -22,7 +23,8 @@ impl<R, P, T> Conn<R, P, T> {
     /// They were written.
     pub fn written(&mut self)
         requires at { IsWrite self.old.broken self.old.stage }
-        ensures next { (s : State R P T) → Stands self.old s → Stands self.new (served (Write (out_of self.old.stage)) s) }
+        ensures next { (s : State R P T) → Stands self.old s
+            → Stands self.new (served (Write (out_of self.old.stage)) s) }
         ensures stays { self.old.broken ≡ true → self.new.broken ≡ true }
         ensures fewer { calls_left self.new < calls_left self.old }
     {
@@ -31,7 +33,7 @@ impl<R, P, T> Conn<R, P, T> {
                 drop(bytes);
                 self.follow(then);
             }
-            Stage::LastWrite => self.set(Stage::Close(Closing::Ended(13))),
+            Stage::LastWrite => self.set(Stage::Close(Closing::Ended(status::NO_MEMORY))),
             _ => unreachable!(),
         }
     }

@@ -1,0 +1,42 @@
+//! The calls of Enter; its key is taken as that of Resume is.
+ghost use Rattle.std.specs.Prelude.{◌≡◌, ◌<◌, false};
+ghost use Rattle.conn_core.specs.Calls.{entry_of, IsEntering};
+ghost use Rattle.conn_core.specs.Stands.{calls_left, replied, Stands, State, Taken};
+
+use crate::outcome::Outcome;
+use crate::stage::{Hold, Stage};
+use crate::status;
+use crate::{Conn, EntryAnswer};
+use std::mem;
+
+impl<R, P, T> Conn<R, P, T> {
+    /// The answer to Enter, after its key was taken.
+    pub fn give_entry(&mut self, answer: EntryAnswer<T>)
+    where
+        R: Drop,
+        requires at { IsEntering self.old.stage }
+        requires whole { self.old.broken ≡ false }
+        ensures next { (s : State R P T) → Taken self.old s → Stands self.new (replied (entry_of answer) s) }
+        ensures fewer { calls_left self.new < calls_left self.old }
+    {
+        match mem::replace(&mut self.stage, Stage::Bytes) {
+            Stage::Entering {
+                id,
+                request,
+                rules,
+                life,
+            } => match answer {
+                EntryAnswer::Entered(ticket) => self.set(Stage::Begin {
+                    id,
+                    request,
+                    rules,
+                    hold: Some(Hold { ticket, life }),
+                }),
+                EntryAnswer::IdInUse => self.outcome(id, Outcome::Failed(status::ID_IN_USE)),
+                EntryAnswer::Full => self.outcome(id, Outcome::Failed(status::TABLE_FULL)),
+                EntryAnswer::Worn => self.outcome(id, Outcome::Failed(status::WORN)),
+            },
+            _ => unreachable!(),
+        }
+    }
+}
