@@ -1,5 +1,5 @@
 -- What the machine does between two needs.
-use Rattle.std.specs.Prelude.{◌≡◌, ℕ, ◌<◌, Bool, true, false, Option, Some, None, List, ◌∷◌, ◌++◌, length}
+use Rattle.std.specs.Prelude.{◌≡◌, ℕ, ◌<◌, true, false, Option, Some, None, List, ◌∷◌, ◌++◌, length}
 use Rattle.spop_hello.specs.Frames.{disconnect}
 use Rattle.spop_talk.specs.declared.message.Message.{Message}
 use Rattle.spop_web.specs.declared.request.Asked.{Asked}

@@ -143,7 +143,7 @@ module _ {R P T : Type 0} where
   At needs.Write broken stage = IsWrite broken stage
   At needs.Close broken stage = IsClose stage
 
-  -- the state after an answer; that no memory was found is no reply
+  -- the state after an answer; out of memory is no reply
   abbrev pub looked_up : List ℕ → lookings.LookAnswer R → State R P T → State R P T
   looked_up app (looks.Found rules settings) s = replied (Found rules settings) (served (Look app) s)
   looked_up app looks.UnknownApp s = replied UnknownApp (served (Look app) s)

@@ -28,7 +28,8 @@ done_actions word status = text_action (codes "action") word ++ number_action (c
 abbrev pub act_actions : act.VerdictAct → ℕ → List Action
 act_actions acts.Deny status = done_actions (codes "deny") status
 act_actions acts.Drop status = done_actions (codes "drop") status
-act_actions (acts.Redirect location) status = done_actions (codes "redirect") status ++ text_action (codes "data") location
+act_actions (acts.Redirect location) status =
+    done_actions (codes "redirect") status ++ text_action (codes "data") location
 
 abbrev pub verdict_actions : Verdict → List Action
 verdict_actions v = act_actions v.act v.status ++ number_action (codes "ruleid") v.rule
@@ -37,7 +38,8 @@ abbrev pub outcome_actions : outcome.Outcome → List Action
 outcome_actions outcomes.Passed = []
 outcome_actions (outcomes.Stopped verdict) = verdict_actions verdict
 outcome_actions (outcomes.Failed error) = number_action (codes "error") error
-outcome_actions (outcomes.Bad arg) = text_action (codes "data") (name_of arg) ++ number_action (codes "error") BAD_ARGUMENT
+outcome_actions (outcomes.Bad arg) =
+    text_action (codes "data") (name_of arg) ++ number_action (codes "error") BAD_ARGUMENT
 
 -- the identifier first, where it is good
 abbrev pub actions_of : Option (List ℕ) → outcome.Outcome → List Action

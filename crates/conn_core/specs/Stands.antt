@@ -62,7 +62,8 @@ module _ {R P T : Type 0} where
 
   -- what is left, by where it stands: `h` goes on at a frame, `k` after a message with its actions, `r` at the next
   -- message, `f` at the next frame
-  abbrev pub left_at : Stage R P T → (Frame → Replies R P T → Needs R P T) → Next R P T → (Replies R P T → Needs R P T) → (Replies R P T → Needs R P T) → Replies R P T → Needs R P T
+  abbrev pub left_at : Stage R P T → (Frame → Replies R P T → Needs R P T) → Next R P T
+      → (Replies R P T → Needs R P T) → (Replies R P T → Needs R P T) → Replies R P T → Needs R P T
   left_at at.Bytes h k r f later = f later
   left_at (at.Framed frame) h k r f later = h frame later
   left_at at.Ready h k r f later = r later
@@ -81,7 +82,8 @@ module _ {R P T : Type 0} where
   left_at (at.Finishing id) h k r f later = finished id k later
   left_at (at.Write bytes None) h k r f later = Write bytes ∷ f later
   left_at (at.Write bytes (Some how)) h k r f later = Write bytes ∷ Close how ∷ []
-  left_at (at.LastLeave ticket) h k r f later = Leave ticket ∷ Write (disconnect NO_MEMORY) ∷ Close (closings.Ended NO_MEMORY) ∷ []
+  left_at (at.LastLeave ticket) h k r f later =
+      Leave ticket ∷ Write (disconnect NO_MEMORY) ∷ Close (closings.Ended NO_MEMORY) ∷ []
   left_at at.LastWrite h k r f later = Write (disconnect NO_MEMORY) ∷ Close (closings.Ended NO_MEMORY) ∷ []
   left_at (at.Close how) h k r f later = Close how ∷ []
 
@@ -89,15 +91,17 @@ module _ {R P T : Type 0} where
   abbrev pub left_with : ConnView R P T → List ℕ → Bool → Replies R P T → Needs R P T
   left_with c unread ended =
       let f = needs_from {R = R} {P = P} {T = T} c.size c.agreed unread ended in
-      let r = λ (actions : List Action). messages {R = R} {P = P} {T = T} c.left actions (answer (limit_of c.size c.agreed) c.stream c.frame f) in
-      left_at c.stage (any_frame {R = R} {P = P} {T = T} c.size c.agreed (λ agreed. needs_from c.size agreed unread ended))
+      let r = λ (actions : List Action).
+      messages {R = R} {P = P} {T = T} c.left actions (answer (limit_of c.size c.agreed) c.stream c.frame f) in
+      left_at c.stage
+      (any_frame {R = R} {P = P} {T = T} c.size c.agreed (λ agreed. needs_from c.size agreed unread ended))
       (λ actions. r (c.actions ++ actions)) (r c.actions) f
 
   -- with the input that comes yet
   abbrev pub left_of : ConnView R P T → List ℕ → Bool → Replies R P T → Needs R P T
   left_of c more ended = left_with c (c.unread ++ more) ended
 
-  -- nothing comes behind the end of an input at which it closed
+  -- nothing comes after the end of an input at which it closed
   abbrev pub hears : Stage R P T → Bool → Bool
   hears (at.Close how) ended = not ended
   hears stage ended = true
@@ -105,7 +109,8 @@ module _ {R P T : Type 0} where
   -- however it goes on, the needs are those that are done, and then those that are left
   pub record Going (c : ConnView R P T) (s : State R P T) : Type 0 where
     pub is : (more : List ℕ) (ends : Bool) (later : Replies R P T) →
-        trace s.size (s.input ++ cond (hears c.stage c.ended) more []) (cond (hears c.stage c.ended) ends false || s.ended) (s.replies ++ later)
+        trace s.size (s.input ++ cond (hears c.stage c.ended) more [])
+        (cond (hears c.stage c.ended) ends false || s.ended) (s.replies ++ later)
         ≡ s.past ++ left_of c more (ends || c.ended) later
 
   -- the tickets that were given, those that were parked or left, and the one that is held
@@ -134,13 +139,14 @@ module _ {R P T : Type 0} where
     pub tickets : tickets_in s.replies ≡ spent_in s.past ++ held_at c.stage
     pub ended : c.ended ≡ s.ended
 
-  -- A broken trace: a front of the trace, then each ticket that is open is left, the frame of status 13 is written,
+  -- A broken trace: a prefix of the trace, then each ticket that is open is left, DISCONNECT 13 is written,
   -- and that is the end
   pub record IsBroken (whole : Needs R P T) (replies : Replies R P T) (needs : Needs R P T) : Type 0 where
     pub front : Needs R P T
     pub rest : Needs R P T
     pub whole_is : whole ≡ front ++ rest
-    pub is : needs ≡ front ++ (map Leave (drop (length (spent_in front)) (tickets_in replies)) ++ Write (disconnect NO_MEMORY) ∷ Close (closings.Ended NO_MEMORY) ∷ [])
+    pub is : needs ≡ front ++ (map Leave (drop (length (spent_in front)) (tickets_in replies))
+        ++ Write (disconnect NO_MEMORY) ∷ Close (closings.Ended NO_MEMORY) ∷ [])
 
   -- what is left of one
   abbrev pub ending : Stage R P T → Needs R P T
@@ -159,7 +165,7 @@ module _ {R P T : Type 0} where
     pub trace_is : IsBroken (trace s.size s.input s.ended s.replies) s.replies (s.past ++ ending c.stage)
     pub ending_is : IsEnding c.stage
 
-  -- whole, or broken by want of memory
+  -- whole, or broken: out of memory
   abbrev pub StandsAs : Bool → ConnView R P T → State R P T → Type 0
   StandsAs false c s = Plain c s
   StandsAs true c s = Broken c s
@@ -208,13 +214,14 @@ module _ {R P T : Type 0} where
     pub on : s.ended ≡ false
     pub trace_is : trace s.size s.input s.ended s.replies ≡ s.past ++ Bytes ∷ []
 
-  -- How it ends: as the definition does, and where the input has not ended so whatever comes; or as a broken trace of it
+  -- How it ends: as the definition does, and where the input has not ended so whatever comes; or as a broken trace
   pub record Closes (c : ConnView R P T) (s : State R P T) (how : closing.Closing) : Type 0 where
     pub plain : c.broken ≡ false → trace s.size s.input s.ended s.replies ≡ s.past ++ Close how ∷ []
-    pub whatever : c.broken ≡ false → s.ended ≡ false → (more : List ℕ) (ends : Bool) → trace s.size (s.input ++ more) ends s.replies ≡ s.past ++ Close how ∷ []
+    pub whatever : c.broken ≡ false → s.ended ≡ false → (more : List ℕ) (ends : Bool)
+        → trace s.size (s.input ++ more) ends s.replies ≡ s.past ++ Close how ∷ []
     pub broke : c.broken ≡ true → IsBroken (trace s.size s.input s.ended s.replies) s.replies (s.past ++ Close how ∷ [])
 
-  -- at Close, and after want of memory, no more input is heard
+  -- at Close, and once it is out of memory, no more input is heard
   abbrev pub is_open : Stage R P T → Bool
   is_open (at.Close how) = false
   is_open stage = true
@@ -224,13 +231,16 @@ module _ {R P T : Type 0} where
 
   -- the input grows, or has ended
   abbrev pub fed : ConnView R P T → List ℕ → State R P T → State R P T
-  fed c piece s = cond (listens c) (record { size = s.size; input = s.input ++ piece; ended = s.ended; replies = s.replies; past = s.past }) s
+  fed c piece s =
+      cond (listens c)
+      (record { size = s.size; input = s.input ++ piece; ended = s.ended; replies = s.replies; past = s.past }) s
 
   abbrev pub shut : ConnView R P T → State R P T → State R P T
-  shut c s = cond (listens c) (record { size = s.size; input = s.input; ended = true; replies = s.replies; past = s.past }) s
+  shut c s =
+      cond (listens c) (record { size = s.size; input = s.input; ended = true; replies = s.replies; past = s.past }) s
 
-  -- A bound on the calls until it needs bytes or closes: sixteen for each unread byte and each message that is left, and
-  -- a number for the stage
+  -- A bound on the calls until it needs bytes or closes: sixteen for each unread byte and each message that is left,
+  -- and a number for the stage
   abbrev pub rank : Stage R P T → ℕ
   rank (at.Look id key request) = 12
   rank (at.Enter id key request rules life) = 11

@@ -86,11 +86,11 @@ judged id (Some verdict) = actions_of (Some id) (outcomes.Stopped verdict)
 abbrev pub refused : List Pair → Arg → List Action
 refused args bad = actions_of (identifier_in (given arguments.Id args)) (outcomes.Bad bad)
 
--- the types of an offer and of what agents send
+-- the kinds of the client's HELLO and of what agents send
 abbrev pub is_misplaced : ℕ → Bool
 is_misplaced kind = (kind == HAPROXY_HELLO) || (kind == AGENT_HELLO) || (kind == AGENT_DISCONNECT) || (kind == ACK)
 
--- the longest frame that is taken, before HELLO and behind it
+-- the longest frame that is taken, before HELLO and after it
 abbrev pub limit_of : ℕ → Option ℕ → ℕ
 limit_of size None = size
 limit_of size (Some agreed) = agreed
@@ -165,22 +165,24 @@ module _ {R P T : Type 0} where
   -- its ACK, which has to keep to the limit
   abbrev pub answer : ℕ → ℕ → ℕ → (Replies R P T → Needs R P T) → List Action → Replies R P T → Needs R P T
   answer limit stream frame k actions replies =
-      if nat_lt limit (length (ack_body stream frame actions)) then refuse TOO_BIG else Write (ack stream frame actions) ∷ k replies
+      if nat_lt limit (length (ack_body stream frame actions)) then refuse TOO_BIG
+      else Write (ack stream frame actions) ∷ k replies
 
   abbrev pub notify : ℕ → Frame → (Replies R P T → Needs R P T) → Option (List Message) → Replies R P T → Needs R P T
   notify limit f k None replies = refuse INVALID
   notify limit f k (Some ms) replies = messages ms [] (answer limit f.stream f.frame k) replies
 
-  -- HAProxy's offer; a health check ends with the answer
+  -- the client's HELLO; a health check ends with the answer
   abbrev pub greeted : (ℕ → Needs R P T) → Result Terms ℕ → Needs R P T
   greeted k (Err status) = refuse status
   greeted k (Ok terms) = Write (agent_hello terms) ∷ (if terms.check then Close closings.Done ∷ [] else k terms.size)
 
-  -- a frame before HELLO and one behind it, by its type
+  -- a frame before HELLO and one after it, by its kind
   abbrev pub any_frame : ℕ → Option ℕ → (Option ℕ → Replies R P T → Needs R P T) → Frame → Replies R P T → Needs R P T
   any_frame size None k f replies =
       if f.kind == HAPROXY_DISCONNECT then Write (disconnect NORMAL) ∷ Close closings.Done ∷ []
-      else (if f.kind == HAPROXY_HELLO then greeted (λ agreed. k (Some agreed) replies) (terms_of size f.payload) else refuse INVALID)
+      else (if f.kind == HAPROXY_HELLO then greeted (λ agreed. k (Some agreed) replies) (terms_of size f.payload)
+      else refuse INVALID)
   any_frame size (Some agreed) k f replies =
       if f.kind == HAPROXY_DISCONNECT then Write (disconnect NORMAL) ∷ Close closings.Done ∷ []
       else (if f.kind == NOTIFY then notify agreed f (k (Some agreed)) (messages_of f.payload) replies
@@ -192,7 +194,8 @@ module _ {R P T : Type 0} where
   at_end true [] = Close closings.Done ∷ []
   at_end true (b ∷ bytes) = Close closings.CutShort ∷ []
 
-  abbrev pub at_head : ℕ → Option ℕ → (List ℕ → Option ℕ → Replies R P T → Needs R P T) → Bool → List ℕ → Head → Replies R P T → Needs R P T
+  abbrev pub at_head : ℕ → Option ℕ → (List ℕ → Option ℕ → Replies R P T → Needs R P T) → Bool → List ℕ → Head
+      → Replies R P T → Needs R P T
   at_head size agreed k ended unread NotYet replies = at_end ended unread
   at_head size agreed k ended unread (Bad status) replies = refuse status
   at_head size agreed k ended unread (Whole f rest) replies = any_frame size agreed (k rest) f replies
@@ -201,7 +204,8 @@ module _ {R P T : Type 0} where
   abbrev pub frames : ℕ → ℕ → Option ℕ → List ℕ → Bool → Replies R P T → Needs R P T
   frames zero size agreed unread ended replies = []
   frames (suc most) size agreed unread ended replies =
-      at_head size agreed (λ rest now later. frames most size now rest ended later) ended unread (head_of (limit_of size agreed) unread) replies
+      at_head size agreed (λ rest now later. frames most size now rest ended later) ended unread
+      (head_of (limit_of size agreed) unread) replies
 
   -- all of them: each takes a byte at least
   abbrev pub needs_from : ℕ → Option ℕ → List ℕ → Bool → Replies R P T → Needs R P T

@@ -44,8 +44,16 @@ impl<R, P, T> Model for Conn<R, P, T> {
     ghost Value = { ConnView R P T };
 
     ghost view = { λ c. record {
-        size = c.size; agreed = c.agreed; unread = c.framer.bytes; ended = c.ended; stage = c.stage;
-        stream = c.stream; frame = c.frame; left = c.left.items; actions = c.actions; broken = c.broken
+      size = c.size;
+      agreed = c.agreed;
+      unread = c.framer.bytes;
+      ended = c.ended;
+      stage = c.stage;
+      stream = c.stream;
+      frame = c.frame;
+      left = c.left.items;
+      actions = c.actions;
+      broken = c.broken;
     } };
 }
 
@@ -96,7 +104,7 @@ impl<R, P, T> Conn<R, P, T> {
         }
     }
 
-    /// Whether its needs are those of a connection that found no memory, or was told so. It takes no
+    /// Whether its needs are those of a connection that is out of memory, or was told so. It takes no
     /// memory.
     pub fn broken(&self) -> bool
         ensures { result ≡ self.now.broken }
@@ -154,95 +162,50 @@ pub(crate) fn ticket_in<R: Drop, P: Drop, T>(stage: Stage<R, P, T>) -> Option<T>
 {
     match stage {
         Stage::Bytes | Stage::Ready | Stage::LastWrite | Stage::Close(_) => None,
-        Stage::Framed(frame) => {
-            drop(frame);
-            None
-        }
-        Stage::Look { id, key, request } => {
-            drop((id, key, request));
-            None
-        }
+        Stage::Framed(frame) => freed(frame, None),
+        Stage::Look { id, key, request } => freed((id, key, request), None),
         Stage::Enter {
             id,
             key,
             request,
             rules,
             life: _,
-        } => {
-            drop((id, key, request));
-            drop(rules);
-            None
-        }
+        } => freed(((id, key, request), rules), None),
         Stage::Entering {
             id,
             request,
             rules,
             life: _,
-        } => {
-            drop((id, request));
-            drop(rules);
-            None
-        }
+        } => freed((id, request, rules), None),
         Stage::Begin {
             id,
             request,
             rules,
             hold,
-        } => {
-            drop((id, request));
-            drop(rules);
-            ticket_of(hold)
-        }
-        Stage::Begun { id, hold } => {
-            drop(id);
-            ticket_of(hold)
-        }
-        Stage::Park { id, hold, half } => {
-            drop(id);
-            drop(half);
-            let Hold { ticket, life: _ } = hold;
-            Some(ticket)
-        }
+        } => freed((id, request, rules), ticket_of(hold)),
+        Stage::Begun { id, hold } => freed(id, ticket_of(hold)),
+        Stage::Park { id, hold, half } => freed((id, half), ticket_of(Some(hold))),
         Stage::Leave {
             id,
             ticket,
             verdict,
-        } => {
-            drop((id, verdict));
-            Some(ticket)
-        }
+        } => freed((id, verdict), Some(ticket)),
         Stage::LastLeave(ticket) => Some(ticket),
-        Stage::Retire { id, half } => {
-            drop(id);
-            drop(half);
-            None
-        }
-        Stage::Retiring(id) => {
-            drop(id);
-            None
-        }
-        Stage::Resume { id, key, response } => {
-            drop((id, key, response));
-            None
-        }
-        Stage::Resuming { id, response } => {
-            drop((id, response));
-            None
-        }
-        Stage::Finish { id, half, response } => {
-            drop((id, response));
-            drop(half);
-            None
-        }
-        Stage::Finishing(id) => {
-            drop(id);
-            None
-        }
-        Stage::Write { bytes, then: _ } => {
-            drop(bytes);
-            None
-        }
+        Stage::Retire { id, half } => freed((id, half), None),
+        Stage::Retiring(id) | Stage::Finishing(id) => freed(id, None),
+        Stage::Resume { id, key, response } => freed((id, key, response), None),
+        Stage::Resuming { id, response } => freed((id, response), None),
+        Stage::Finish { id, half, response } => freed((id, half, response), None),
+        Stage::Write { bytes, then: _ } => freed(bytes, None),
     }
+}
+
+// Lets a value go, and hands out the ticket that stood beside it.
+fn freed<A: Drop, T>(value: A, ticket: Option<T>) -> Option<T>
+    ensures { result ≡ ticket }
+{
+    drop(value);
+    ticket
 }
 
 // The ticket that is held.

@@ -5,8 +5,7 @@ ghost use Rattle.conn_core.specs.Stands.{calls_left, replied, Stands, State, Tak
 
 use crate::outcome::Outcome;
 use crate::stage::{Hold, Stage};
-use crate::status;
-use crate::{Conn, EntryAnswer};
+use crate::{Conn, EntryAnswer, status};
 use std::mem;
 
 impl<R, P, T> Conn<R, P, T> {

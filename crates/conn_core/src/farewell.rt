@@ -8,7 +8,7 @@ use std::alloc::Global;
 use std::marker::Model;
 use waf_plain::{Bytes, NoMemory};
 
-// The DISCONNECT of status 13, made before it is needed, since no memory is left then.
+// The DISCONNECT of an agent that is out of memory, made before it is needed.
 #[derive(Drop)]
 pub(crate) struct Farewell {
     bytes: Bytes,

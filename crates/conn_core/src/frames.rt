@@ -7,8 +7,7 @@ ghost use Rattle.conn_core.specs.Stands.{calls_left};
 ghost use Rattle.conn_core.specs.Trace.{is_misplaced};
 
 use crate::stage::Stage;
-use crate::status;
-use crate::{Closing, Conn};
+use crate::{Closing, Conn, status};
 use spop_data::DataFault;
 use spop_frame::{Frame, kind};
 use spop_hello::{Refuse, Terms, disconnect_frame, hello_frame, negotiate};
@@ -28,7 +27,10 @@ impl<R, P, T> Conn<R, P, T> {
         ensures fewer { calls_left self.new < calls_left (record self.old { stage = Stage.Framed frame }) }
     {
         if frame.kind == kind::HAPROXY_DISCONNECT {
-            self.write(disconnect_bytes(self.alloc, status::NORMAL), Some(Closing::Done));
+            self.write(
+                disconnect_bytes(self.alloc, status::NORMAL),
+                Some(Closing::Done),
+            );
             return false;
         }
         match self.agreed {
@@ -54,7 +56,7 @@ impl<R, P, T> Conn<R, P, T> {
         }
     }
 
-    // Answers an offer.
+    // Answers the client's HELLO.
     fn greet(&mut self, frame: Frame)
         requires at { self.old.stage ≡ Stage.Bytes }
         requires whole { self.old.broken ≡ false }

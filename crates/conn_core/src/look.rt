@@ -4,8 +4,7 @@ ghost use Rattle.conn_core.specs.Stands.{calls_left, Stands, State};
 
 use crate::outcome::Outcome;
 use crate::stage::Stage;
-use crate::status;
-use crate::{Conn, LookAnswer};
+use crate::{Conn, LookAnswer, status};
 use std::mem;
 
 impl<R, P, T> Conn<R, P, T> {

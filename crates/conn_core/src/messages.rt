@@ -1,14 +1,13 @@
 //! The messages of a NOTIFY, one after the other, and the ACK that answers them.
-ghost use Rattle.std.specs.Prelude.{◌≡◌, ◌+◌, ◌<◌, ◌≤◌, ◌++◌, ◌∷◌, [], bytes_eq, false, IfOk, IsErrOf, length, List, OnOk, Option, Some, true, ℕ};
+ghost use Rattle.std.specs.Prelude.{◌≡◌, ◌+◌, ◌<◌, ◌≤◌, [], bytes_eq, false, IfOk, IsErrOf, length, OnOk, Some, true, ℕ};
 ghost use Rattle.spop_talk.specs.Ack.{ack, ack_body};
 ghost use Rattle.conn_core.specs.Between.{answered, asking, AtNextMessage, ComesTo, IsBlank, IsPast, starved, telling, with_message};
 ghost use Rattle.conn_core.specs.Stands.{calls_left};
 ghost use Rattle.conn_core.specs.Trace.{request_name, response_name};
 
-use crate::Conn;
 use crate::outcome::{Outcome, add_outcome};
 use crate::stage::Stage;
-use crate::status;
+use crate::{Conn, status};
 use hall_core::Key;
 use spop_talk::{AckFault, Action, Message, write_ack};
 use spop_web::{ArgFault, Asked, Told, request_of, response_of};

@@ -28,11 +28,11 @@ pub enum Need {
 /// How a connection ended.
 #[derive(Clone, Copy, Debug, PartialEq, Eq)]
 pub enum Closing {
-    /// HAProxy left, the input ended between two frames, or a health check was answered.
+    /// HAProxy sent DISCONNECT, the input ended between two frames, or a health check was answered.
     Done,
     /// The input ended within a frame.
     CutShort,
-    /// The agent left with this status (SPOE.txt, 3.5); 13 is want of memory.
+    /// The agent sent DISCONNECT with this status (SPOE.txt, 3.5); 13 is out of memory.
     Ended(u32),
     /// Reading failed.
     ReadFault,

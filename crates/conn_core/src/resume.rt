@@ -3,10 +3,9 @@ ghost use Rattle.std.specs.Prelude.{◌≡◌, ◌<◌, false};
 ghost use Rattle.conn_core.specs.Calls.{claim_of, IsResuming};
 ghost use Rattle.conn_core.specs.Stands.{calls_left, replied, Stands, State, Taken};
 
-use crate::Conn;
 use crate::outcome::Outcome;
 use crate::stage::Stage;
-use crate::status;
+use crate::{Conn, status};
 use std::mem;
 
 impl<R, P, T> Conn<R, P, T> {

@@ -83,7 +83,7 @@ pub enum Stage<R, P, T> {
         bytes: Bytes,
         then: Option<Closing>,
     },
-    // No memory was found: this ticket is to be left, and then the frame of status 13 written.
+    // Out of memory: this ticket is to be left, and then the last DISCONNECT written.
     LastLeave(T),
     LastWrite,
     Close(Closing),

@@ -4,8 +4,7 @@ ghost use Rattle.conn_core.specs.Stands.{calls_left, served, Stands, State};
 ghost use Rattle.conn_core.specs.Trace.{Write};
 
 use crate::stage::Stage;
-use crate::status;
-use crate::{Closing, Conn};
+use crate::{Closing, Conn, status};
 use std::mem;
 
 impl<R, P, T> Conn<R, P, T> {
