@@ -1,5 +1,9 @@
 //! The rows of a transaction: what each variable of the rule language holds, which of its values a
 //! rule looks at, and macros with values in the places of their references.
+//!
+//! `Vars::new(alloc, request)?.rows(Var::ArgsGet)` lends the arguments of a request's query. The
+//! definitions are `rows_of` in `specs/Rows.antt`, `selection` in `specs/Selection.antt` and
+//! `expansion` in `specs/Expansion.antt`, over the record `Held`.
 #![tactic(auto)]
 
 mod body;
@@ -22,6 +26,6 @@ pub use parts::{AddedResponse, OpenedBody};
 pub use request::value_named;
 pub use row_ref::RowRef;
 pub use rows::Rows;
-pub use selection::{Sought, select};
+pub use selection::{TargetQuery, select};
 pub use variables::{delete_variable, put_variable};
 pub use vars::Vars;

@@ -22,7 +22,8 @@ pub enum Rows<'a> {
 impl<'a> Rows<'a> {
     /// The first row, by name and value, and the rows behind it; `None` where there is no row.
     pub fn split_first(self) -> Option<(&'a [u8], &'a [u8], Rows<'a>)>
-        ensures { MatchOption result (lent self.entry ≡ []) (λ first. lent self.entry ≡ row first.0.now first.1.now ∷ lent first.2) }
+        ensures { MatchOption result (lent self.entry ≡ [])
+            (λ first. lent self.entry ≡ row first.0.now first.1.now ∷ lent first.2) }
     {
         match self {
             Rows::Nothing => None,
@@ -37,7 +38,8 @@ fn first_pair<'a>(
     front: &'a [NameValue],
     rest: &'a [NameValue],
 ) -> Option<(&'a [u8], &'a [u8], Rows<'a>)>
-    ensures { MatchOption result (lent (Rows.Pairs front.entry rest.entry) ≡ []) (λ first. lent (Rows.Pairs front.entry rest.entry) ≡ row first.0.now first.1.now ∷ lent first.2) }
+    ensures { MatchOption result (lent (Rows.Pairs front.entry rest.entry) ≡ [])
+        (λ first. lent (Rows.Pairs front.entry rest.entry) ≡ row first.0.now first.1.now ∷ lent first.2) }
 {
     if let Some((first, behind)) = front.split_first() {
         return Some((
@@ -58,7 +60,8 @@ fn first_name<'a>(
     front: &'a [NameValue],
     rest: &'a [NameValue],
 ) -> Option<(&'a [u8], &'a [u8], Rows<'a>)>
-    ensures { MatchOption result (lent (Rows.Names front.entry rest.entry) ≡ []) (λ first. lent (Rows.Names front.entry rest.entry) ≡ row first.0.now first.1.now ∷ lent first.2) }
+    ensures { MatchOption result (lent (Rows.Names front.entry rest.entry) ≡ [])
+        (λ first. lent (Rows.Names front.entry rest.entry) ≡ row first.0.now first.1.now ∷ lent first.2) }
 {
     if let Some((first, behind)) = front.split_first() {
         return Some((

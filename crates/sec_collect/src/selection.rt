@@ -1,4 +1,4 @@
-ghost use Rattle.std.specs.Prelude.{◌≡◌, ◌++◌, ◌||◌, length, map, filter, IfOk, OnOk};
+ghost use Rattle.std.specs.Prelude.{◌≡◌, ◌++◌, ◌||◌, [], length, map, filter, IfOk, OnOk};
 ghost use Rattle.std.specs.List.{list_any, zip};
 ghost use Rattle.sec_collect.specs.Lent.{lent};
 ghost use Rattle.sec_collect.specs.Selection.{excludes, is_matched, is_selected, keeps, names, removes, same_variable, selection, value_row, values_of};
@@ -21,46 +21,39 @@ pub fn select<M: Selector>(
 ) -> Result<Seq<RowRef>, NoMemory>
     ensures { IfOk result (λ rows. rows ≡ selection M.meaning (zip targets.now patterns.now) removed.now vars.now) }
 {
-    let all = Sought {
+    let query = TargetQuery {
         targets: targets.as_slice(),
         patterns: patterns.as_slice(),
-        removed: removed.as_slice(),
     };
+    let removed = removed.as_slice();
     let mut out = Seq::new(alloc);
     let mut rest = patterns.as_slice();
     for target in targets.as_slice() {
         let Some((pattern, behind)) = rest.split_first() else {
             return Ok(out);
         };
-        add_values(alloc, vars, &all, target, pattern, &mut out)?;
+        add_values(alloc, vars, &query, removed, target, pattern, &mut out)?;
         rest = behind;
     }
     Ok(out)
 }
 
-/// What a rule looks at: its targets, for each of them the pattern by which it selects, if it does, and
-/// the targets that were removed from it.
+/// What a rule looks at: its targets, and for each of them the pattern by which it selects, if it does.
+/// No target is removed from it.
 #[derive(Drop)]
-pub struct Sought<'a, M> {
+pub struct TargetQuery<'a, M> {
     pub targets: &'a [Target],
     pub patterns: &'a [Option<M>],
-    pub removed: &'a [Target],
 }
 
-impl<'a, M: Selector> Sought<'a, M> {
+impl<'a, M: Selector> TargetQuery<'a, M> {
     /// Whether one of the targets, beside its pattern, selects rows of a name, and no other target takes
     /// them away.
     pub fn keeps(&self, target: &Target, pattern: &Option<M>, name: &[u8]) -> Result<bool, NoMemory>
-        ensures { IfOk result (λ is_kept. is_kept ≡ keeps M.meaning (zip self.now.targets.now self.now.patterns.now) self.now.removed.now (target.now, pattern.now) name.now) }
+        ensures { IfOk result (λ is. is ≡ keeps M.meaning (zip self.now.targets.now self.now.patterns.now) []
+            (target.now, pattern.now) name.now) }
     {
-        if !is_selected(&target.select, pattern, name)? {
-            return Ok(false);
-        }
-        if is_removed(self.removed, target.var, name) {
-            return Ok(false);
-        }
-        let is_excluded = is_excluded(self.targets, self.patterns, target.var, name)?;
-        Ok(!is_excluded)
+        keeps(self, &[], target, pattern, name)
     }
 
     /// How many rows one of the targets, beside its pattern, leaves of these.
@@ -70,56 +63,99 @@ impl<'a, M: Selector> Sought<'a, M> {
         pattern: &Option<M>,
         rows: Rows<'_>,
     ) -> Result<u64, NoMemory>
-        ensures { IfOk result (λ count. count ≡ length (filter (λ r. keeps M.meaning (zip self.now.targets.now self.now.patterns.now) self.now.removed.now (target.now, pattern.now) r.name) (lent rows.entry))) }
+        ensures { IfOk result (λ n. n ≡ length (filter
+            (λ r. keeps M.meaning (zip self.now.targets.now self.now.patterns.now) [] (target.now, pattern.now) r.name)
+            (lent rows.entry))) }
     {
-        let mut count: u64 = 0;
-        let mut rest = rows;
-        while let Some((name, _, behind)) = rest.split_first() {
-            if self.keeps(target, pattern, name)? {
-                count = count.checked_add(1).ok_or(NoMemory)?;
-            }
-            rest = behind;
-        }
-        Ok(count)
+        count(self, &[], target, pattern, rows)
     }
+}
+
+fn keeps<M: Selector>(
+    query: &TargetQuery<'_, M>,
+    removed: &[Target],
+    target: &Target,
+    pattern: &Option<M>,
+    name: &[u8],
+) -> Result<bool, NoMemory>
+    ensures { IfOk result (λ is. is ≡ keeps M.meaning (zip query.now.targets.now query.now.patterns.now) removed.now
+        (target.now, pattern.now) name.now) }
+{
+    if !is_selected(&target.select, pattern, name)? {
+        return Ok(false);
+    }
+    if is_removed(removed, target.var, name) {
+        return Ok(false);
+    }
+    let is_excluded = is_excluded(query.targets, query.patterns, target.var, name)?;
+    Ok(!is_excluded)
+}
+
+fn count<M: Selector>(
+    query: &TargetQuery<'_, M>,
+    removed: &[Target],
+    target: &Target,
+    pattern: &Option<M>,
+    rows: Rows<'_>,
+) -> Result<u64, NoMemory>
+    ensures { IfOk result (λ n. n ≡ length (filter
+        (λ r. keeps M.meaning (zip query.now.targets.now query.now.patterns.now) removed.now
+        (target.now, pattern.now) r.name)
+        (lent rows.entry))) }
+{
+    let mut count: u64 = 0;
+    let mut rest = rows;
+    while let Some((name, _, behind)) = rest.split_first() {
+        if keeps(query, removed, target, pattern, name)? {
+            count = count.checked_add(1).ok_or(NoMemory)?;
+        }
+        rest = behind;
+    }
+    Ok(count)
 }
 
 // Adds what a target gives.
 fn add_values<M: Selector>(
     alloc: Global,
     vars: &Vars,
-    all: &Sought<'_, M>,
+    query: &TargetQuery<'_, M>,
+    removed: &[Target],
     target: &Target,
     pattern: &Option<M>,
     out: &mut Seq<RowRef>,
 ) -> Result<(), NoMemory>
-    ensures { OnOk result (out.new ≡ out.old ++ values_of M.meaning (zip all.now.targets.now all.now.patterns.now) all.now.removed.now vars.now (target.now, pattern.now)) }
+    ensures { OnOk result (out.new ≡ out.old ++ values_of M.meaning (zip query.now.targets.now query.now.patterns.now)
+        removed.now vars.now (target.now, pattern.now)) }
 {
     if target.exclude {
         return Ok(());
     }
     let rows = vars.rows(target.var);
     if target.count {
-        let count = all.count(target, pattern, rows)?;
+        let count = count(query, removed, target, pattern, rows)?;
         return out.push(RowRef::of_count(alloc, target, count)?);
     }
-    add_rows(alloc, all, target, pattern, rows, out)
+    add_rows(alloc, query, removed, target, pattern, rows, out)
 }
 
 // Adds copies of the rows that a target leaves.
 fn add_rows<M: Selector>(
     alloc: Global,
-    all: &Sought<'_, M>,
+    query: &TargetQuery<'_, M>,
+    removed: &[Target],
     target: &Target,
     pattern: &Option<M>,
     rows: Rows<'_>,
     out: &mut Seq<RowRef>,
 ) -> Result<(), NoMemory>
-    ensures { OnOk result (out.new ≡ out.old ++ map (value_row target.now.var) (filter (λ r. keeps M.meaning (zip all.now.targets.now all.now.patterns.now) all.now.removed.now (target.now, pattern.now) r.name) (lent rows.entry))) }
+    ensures { OnOk result (out.new ≡ out.old ++ map (value_row target.now.var) (filter
+        (λ r. keeps M.meaning (zip query.now.targets.now query.now.patterns.now) removed.now
+        (target.now, pattern.now) r.name)
+        (lent rows.entry))) }
 {
     let mut rest = rows;
     while let Some((name, value, behind)) = rest.split_first() {
-        if all.keeps(target, pattern, name)? {
+        if keeps(query, removed, target, pattern, name)? {
             out.push(RowRef::of_row(alloc, target.var, name, value)?)?;
         }
         rest = behind;

@@ -92,7 +92,8 @@ fn build_link(alloc: Global, link: &Link) -> Result<BuiltLink, BuildFault>
 fn build_op(alloc: Global, op: &Op) -> Result<Built, BuildFault>
     ensures ok { IfOk result (λ built. built ≡ op.now) }
     ensures read { OnOk result (is_unread_op op.now.kind (source_of op.now.text) ≡ false) }
-    ensures bad { IfErr result (λ e. e ≡ BuildFault.BadPattern → is_unread_op op.now.kind (source_of op.now.text) ≡ true) }
+    ensures bad { IfErr result (λ e. e ≡ BuildFault.BadPattern
+        → is_unread_op op.now.kind (source_of op.now.text) ≡ true) }
 {
     build(alloc, op)
 }

@@ -29,7 +29,8 @@ fn log(alloc: Global, rule: &Rule, state: &mut State) -> Result<(), NoMemory>
 }
 
 fn redirect(alloc: Global, rule: &Rule, location: &Macro, state: &State) -> Result<Flow, NoMemory>
-    ensures { IfOk result (λ flow. flow ≡ interruption rule.now (VerdictAct.Redirect (expansion (held state.now) location.now)) (redirect_status rule.now.status)) }
+    ensures { IfOk result (λ flow. flow ≡ interruption rule.now
+        (VerdictAct.Redirect (expansion (held state.now) location.now)) (redirect_status rule.now.status)) }
 {
     let location = expand(alloc, state.vars(), location)?;
     Ok(interruption(

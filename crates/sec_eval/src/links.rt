@@ -25,7 +25,8 @@ fn old_number(name: &[u8], state: &State) -> i64
 
 // The number of a variable with that of a macro added.
 fn sum(alloc: Global, name: &[u8], value: &Macro, state: &State) -> Result<i64, NoMemory>
-    ensures { IfOk result (λ n. n ≡ bounded (old_number name.now (held state.now) +ℤ number (expansion (held state.now) value.now))) }
+    ensures { IfOk result (λ n. n
+        ≡ bounded (old_number name.now (held state.now) +ℤ number (expansion (held state.now) value.now))) }
 {
     let text = expanded(alloc, state.vars(), value)?;
     Ok(old_number(name, state).saturating_add(number(text.as_slice())))
@@ -33,21 +34,26 @@ fn sum(alloc: Global, name: &[u8], value: &Macro, state: &State) -> Result<i64, 
 
 // The number of a variable with that of a macro subtracted.
 fn difference(alloc: Global, name: &[u8], value: &Macro, state: &State) -> Result<i64, NoMemory>
-    ensures { IfOk result (λ n. n ≡ bounded (old_number name.now (held state.now) -ℤ number (expansion (held state.now) value.now))) }
+    ensures { IfOk result (λ n. n
+        ≡ bounded (old_number name.now (held state.now) -ℤ number (expansion (held state.now) value.now))) }
 {
     let text = expanded(alloc, state.vars(), value)?;
     Ok(old_number(name, state).saturating_sub(number(text.as_slice())))
 }
 
 fn put_text(alloc: Global, name: &[u8], value: &Macro, state: &mut State) -> Result<(), NoMemory>
-    ensures { OnOk result (state.new ≡ record state.old { tx = put_within name.now (expansion (held state.old) value.now) state.old.tx }) }
+    ensures { OnOk result
+        (state.new ≡ record state.old {
+          tx = put_within name.now (expansion (held state.old) value.now) state.old.tx;
+        }) }
 {
     let value = expanded(alloc, state.vars(), value)?;
     state.set_tx(alloc, name, value.as_slice())
 }
 
 fn put_number(alloc: Global, name: &[u8], number: i64, state: &mut State) -> Result<(), NoMemory>
-    ensures { OnOk result (state.new ≡ record state.old { tx = put_within name.now (signed_decimal number) state.old.tx }) }
+    ensures { OnOk result
+        (state.new ≡ record state.old { tx = put_within name.now (signed_decimal number) state.old.tx }) }
 {
     let text = number.to_string(alloc)?;
     state.set_tx(alloc, name, text.as_bytes())

@@ -11,7 +11,7 @@ ghost use Rattle.sec_ops.specs.Selectors.{is_matched};
 use crate::search::{Search, find_hit};
 use crate::text::{Text, expanded};
 use sec_ast::{Link, Target, Var};
-use sec_collect::{RowRef, Rows, Sought, Vars};
+use sec_collect::{RowRef, Rows, TargetQuery, Vars};
 use sec_compile::BuiltLink;
 use sec_meaning::Matched;
 use sec_ops::{Built, NamePattern};
@@ -51,12 +51,11 @@ pub(crate) fn matches<'a>(
         op: &built.op,
         argument: argument.as_slice(),
     };
-    let sought = Sought {
+    let query = TargetQuery {
         targets: link.targets.as_slice(),
         patterns: built.patterns.as_slice(),
-        removed: &[],
     };
-    matches_of(alloc, vars, &question, &sought)
+    matches_of(alloc, vars, &question, &query)
 }
 
 // The rows that are matched of what targets select.
@@ -64,18 +63,19 @@ fn matches_of(
     alloc: Global,
     vars: &Vars,
     question: &Question<'_>,
-    sought: &Sought<'_, NamePattern>,
+    query: &TargetQuery<'_, NamePattern>,
 ) -> Result<Seq<Matched>, NoMemory>
     requires { question.now.op.now ≡ question.now.link.now.op }
-    ensures { IfOk result (λ rows. rows ≡ matched_of question.now (selection is_matched (zip sought.now.targets.now sought.now.patterns.now) sought.now.removed.now vars.now)) }
+    ensures { IfOk result (λ rows. rows ≡ matched_of question.now
+        (selection is_matched (zip query.now.targets.now query.now.patterns.now) [] vars.now)) }
 {
     let mut out = Seq::new(alloc);
-    let mut rest = sought.patterns;
-    for target in sought.targets {
+    let mut rest = query.patterns;
+    for target in query.targets {
         let Some((pattern, behind)) = rest.split_first() else {
             return Ok(out);
         };
-        add_matches(alloc, vars, question, sought, target, pattern, &mut out)?;
+        add_matches(alloc, vars, question, query, target, pattern, &mut out)?;
         rest = behind;
     }
     Ok(out)
@@ -86,23 +86,25 @@ fn add_matches(
     alloc: Global,
     vars: &Vars,
     question: &Question<'_>,
-    sought: &Sought<'_, NamePattern>,
+    query: &TargetQuery<'_, NamePattern>,
     target: &Target,
     pattern: &Option<NamePattern>,
     out: &mut Seq<Matched>,
 ) -> Result<(), NoMemory>
     requires { question.now.op.now ≡ question.now.link.now.op }
-    ensures { OnOk result (out.new ≡ out.old ++ matched_of question.now (values_of is_matched (zip sought.now.targets.now sought.now.patterns.now) sought.now.removed.now vars.now (target.now, pattern.now))) }
+    ensures { OnOk result (out.new ≡ out.old ++ matched_of question.now
+        (values_of is_matched (zip query.now.targets.now query.now.patterns.now) [] vars.now
+        (target.now, pattern.now))) }
 {
     if target.exclude {
         return Ok(());
     }
     let rows = vars.rows(target.var);
     if target.count {
-        let count = sought.count(target, pattern, rows)?;
+        let count = query.count(target, pattern, rows)?;
         return add_count(alloc, question, target, count, out);
     }
-    add_rows(alloc, question, sought, target, pattern, rows, out)
+    add_rows(alloc, question, query, target, pattern, rows, out)
 }
 
 // Adds the number of a target's rows, where that is matched.
@@ -130,18 +132,21 @@ fn add_count(
 fn add_rows(
     alloc: Global,
     question: &Question<'_>,
-    sought: &Sought<'_, NamePattern>,
+    query: &TargetQuery<'_, NamePattern>,
     target: &Target,
     pattern: &Option<NamePattern>,
     rows: Rows<'_>,
     out: &mut Seq<Matched>,
 ) -> Result<(), NoMemory>
     requires { question.now.op.now ≡ question.now.link.now.op }
-    ensures { OnOk result (out.new ≡ out.old ++ matched_of question.now (map (value_row target.now.var) (filter (λ r. keeps is_matched (zip sought.now.targets.now sought.now.patterns.now) sought.now.removed.now (target.now, pattern.now) r.name) (lent rows.entry)))) }
+    ensures { OnOk result (out.new ≡ out.old ++ matched_of question.now (map (value_row target.now.var) (filter
+        (λ r. keeps is_matched (zip query.now.targets.now query.now.patterns.now) []
+        (target.now, pattern.now) r.name)
+        (lent rows.entry)))) }
 {
     let mut rest = rows;
     while let Some((name, value, behind)) = rest.split_first() {
-        if sought.keeps(target, pattern, name)? {
+        if query.keeps(target, pattern, name)? {
             let row = LentRow {
                 var: target.var,
                 name,

@@ -24,7 +24,8 @@ pub enum Flow {
 }
 
 fn follow(flow: RuleFlow, state: &mut State) -> Result<After, NoMemory>
-    ensures { IfOk result (λ then. (n : ℕ) (rest : ThePassing → TheState → Run) → Continues n (follow state.old flow rest) n (after then state.new rest)) }
+    ensures { IfOk result (λ then. (n : ℕ) (rest : ThePassing → TheState → Run)
+        → Continues n (follow state.old flow rest) n (after then state.new rest)) }
 {
     match flow {
         RuleFlow::Next => Ok(After::GoOn(Passing::Looking)),
@@ -55,7 +56,9 @@ fn look_at<L: Ledger>(
     steps: &mut Steps<L>,
 ) -> Result<After, NoMemory>
     requires { built.now ≡ map built_link rule.now.links }
-    ensures ok { IfOk result (λ then. (rest : ThePassing → TheState → Run) → Continues steps.old (one_more (follow (effect rule.now state.old).0 (effect rule.now state.old).1 rest)) steps.new (after then state.new rest)) }
+    ensures ok { IfOk result (λ then. (rest : ThePassing → TheState → Run)
+        → Continues steps.old (one_more (follow (effect rule.now state.old).0 (effect rule.now state.old).1 rest))
+        steps.new (after then state.new rest)) }
     ensures most { steps.new ≡ steps.old + 1 }
 {
     steps.tick();
@@ -71,8 +74,10 @@ fn look<L: Ledger>(
     steps: &mut Steps<L>,
 ) -> Result<After, NoMemory>
     requires { built.now ≡ map built_link rule.now.links }
-    ensures ok { IfOk result (λ then. (rest : ThePassing → TheState → Run) → Continues steps.old (look rule.now state.old rest) steps.new (after then state.new rest)) }
-    ensures most { (rest : ThePassing → TheState → Run) → steps.new ≤ steps.old + (look rule.now state.old rest).looked }
+    ensures ok { IfOk result (λ then. (rest : ThePassing → TheState → Run)
+        → Continues steps.old (look rule.now state.old rest) steps.new (after then state.new rest)) }
+    ensures most { (rest : ThePassing → TheState → Run)
+        → steps.new ≤ steps.old + (look rule.now state.old rest).looked }
 {
     if is_off(state.engine()) {
         return Ok(After::End(None));
@@ -92,8 +97,10 @@ fn at_rule<L: Ledger>(
     steps: &mut Steps<L>,
 ) -> Result<After, NoMemory>
     requires { built.now ≡ map built_link rule.now.links }
-    ensures ok { IfOk result (λ then. (rest : ThePassing → TheState → Run) → Continues steps.old (at_rule passing rule.now state.old rest) steps.new (after then state.new rest)) }
-    ensures most { (rest : ThePassing → TheState → Run) → steps.new ≤ steps.old + (at_rule passing rule.now state.old rest).looked }
+    ensures ok { IfOk result (λ then. (rest : ThePassing → TheState → Run)
+        → Continues steps.old (at_rule passing rule.now state.old rest) steps.new (after then state.new rest)) }
+    ensures most { (rest : ThePassing → TheState → Run)
+        → steps.new ≤ steps.old + (at_rule passing rule.now state.old rest).looked }
 {
     match passing {
         Passing::Looking => look(alloc, rule, built, state, steps),
@@ -117,8 +124,11 @@ fn at_item<L: Ledger>(
     steps: &mut Steps<L>,
 ) -> Result<After, NoMemory>
     requires { built.now ≡ built_links item.now }
-    ensures ok { IfOk result (λ then. (left : List TheItem) → Continues steps.old (walk number (item.now ∷ left) passing state.old) steps.new (after then state.new (walk number left))) }
-    ensures most { (left : List TheItem) → steps.new ≤ steps.old + (walk number (item.now ∷ left) passing state.old).looked }
+    ensures ok { IfOk result (λ then. (left : List TheItem)
+        → Continues steps.old (walk number (item.now ∷ left) passing state.old)
+        steps.new (after then state.new (walk number left))) }
+    ensures most { (left : List TheItem)
+        → steps.new ≤ steps.old + (walk number (item.now ∷ left) passing state.old).looked }
 {
     match item {
         Item::Marker(marker) => Ok(After::GoOn(at_marker(marker, passing))),
@@ -141,7 +151,8 @@ fn walk<L: Ledger>(
     steps: &mut Steps<L>,
 ) -> Result<Flow, NoMemory>
     requires { built.now ≡ map built_links items.now }
-    ensures ok { IfOk result (λ flow. RunsTo steps.old (walk number items.now Passing.Looking state.old) steps.new state.new flow) }
+    ensures ok { IfOk result
+        (λ flow. RunsTo steps.old (walk number items.now Passing.Looking state.old) steps.new state.new flow) }
     ensures most { steps.new ≤ steps.old + (walk number items.now Passing.Looking state.old).looked }
 {
     let mut passing = Passing::Looking;

@@ -34,7 +34,8 @@ pub(crate) fn find_hit<'a>(
     argument: &[u8],
     value: &'a [u8],
 ) -> Result<Search<'a>, NoMemory>
-    ensures found { IfOk result (λ s. found_by s ≡ first_hit (hit built.now argument.now) (tested link.now value.entry.now)) }
+    ensures found { IfOk result
+        (λ s. found_by s ≡ first_hit (hit built.now argument.now) (tested link.now value.entry.now)) }
     ensures missed { IfOk result (λ s. IsMissed (chained link.now.transforms value.entry.now) s) }
 {
     if link.multi {
@@ -63,7 +64,8 @@ fn search_each<'a>(
     argument: &[u8],
     value: &'a [u8],
 ) -> Result<Search<'a>, NoMemory>
-    ensures found { IfOk result (λ s. found_by s ≡ first_hit (hit built.now argument.now) (value.entry.now ∷ changes transforms.now value.entry.now)) }
+    ensures found { IfOk result (λ s. found_by s
+        ≡ first_hit (hit built.now argument.now) (value.entry.now ∷ changes transforms.now value.entry.now)) }
     ensures missed { IfOk result (λ s. IsMissed (chained transforms.now value.entry.now) s) }
 {
     let mut search = search_in(built, argument, Text::Lent(value))?;
@@ -81,8 +83,11 @@ fn search_on<'a>(
     argument: &[u8],
     search: Search<'a>,
 ) -> Result<Search<'a>, NoMemory>
-    ensures found { IfOk result (λ s. (left : List TheTransform) → found_then (hit built.now argument.now) left s ≡ found_then (hit built.now argument.now) (transform ∷ left) search.entry) }
-    ensures missed { IfOk result (λ s. (left : List TheTransform) (last : List ℕ) → LeadsTo last (transform ∷ left) search.entry → LeadsTo last left s) }
+    ensures found { IfOk result (λ s. (left : List TheTransform)
+        → found_then (hit built.now argument.now) left s
+        ≡ found_then (hit built.now argument.now) (transform ∷ left) search.entry) }
+    ensures missed { IfOk result (λ s. (left : List TheTransform) (last : List ℕ)
+        → LeadsTo last (transform ∷ left) search.entry → LeadsTo last left s) }
 {
     match search {
         Search::Found { value, groups } => Ok(Search::Found { value, groups }),

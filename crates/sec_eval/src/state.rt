@@ -74,13 +74,6 @@ impl State {
         &self.vars
     }
 
-    /// The request as it was given.
-    pub fn request(&self) -> &Request
-        ensures { result.now ≡ self.now.request }
-    {
-        self.vars.request()
-    }
-
     /// The log lines so far, but for those that were taken.
     pub fn lines(&self) -> &Seq<LogLine>
         ensures { result.now ≡ self.now.lines }

@@ -69,7 +69,7 @@ impl Half {
     pub fn request(&self) -> &Request
         ensures { result.now ≡ self.now.request }
     {
-        self.state.request()
+        self.state.vars().request()
     }
 }
 
@@ -82,7 +82,9 @@ pub fn begin<L: Ledger>(
     steps: &mut Steps<L>,
 ) -> Result<Begun, NoMemory>
     ensures begins { IfOk result (λ begun. BeginsAs (arc_value rules) generation request begun) }
-    ensures most { steps.new ≤ steps.old + (rules_in 1 (arc_value rules).items + rules_in 2 (arc_value rules).items + rules_in 5 (arc_value rules).items) }
+    ensures most { steps.new ≤ steps.old
+        + (rules_in 1 (arc_value rules).items + rules_in 2 (arc_value rules).items
+        + rules_in 5 (arc_value rules).items) }
 {
     let mut state = State::start(alloc, &rules, request)?;
     match two_phases(alloc, &rules, 1, 2, &mut state, steps) {
@@ -118,7 +120,8 @@ pub fn finish<L: Ledger>(
     steps: &mut Steps<L>,
 ) -> Result<Ended, NoMemory>
     ensures ends { IfOk result (λ ended. EndsAs half response ended) }
-    ensures most { steps.new ≤ steps.old + (rules_in 3 half.listing.items + rules_in 4 half.listing.items + rules_in 5 half.listing.items) }
+    ensures most { steps.new ≤ steps.old
+        + (rules_in 3 half.listing.items + rules_in 4 half.listing.items + rules_in 5 half.listing.items) }
 {
     let Half {
         rules,

@@ -28,8 +28,10 @@ pub fn requests_stay()
 /// whichever response would come. Any other is the phases of the request, and then what is made of
 /// their state without its lines, however late that is. It does nothing.
 pub fn judgements_come_in_halves()
-    ensures stops { (l : Listing) (r : Request) (response : Option Response) (v : Verdict) → (request_part l r).verdict ≡ Some v
-        → judge l r response ≡ record { first = Some v; second = None; lines = (last_part l (request_part l r)).lines } }
+    ensures stops { (l : Listing) (r : Request) (response : Option Response) (v : Verdict)
+        → (request_part l r).verdict ≡ Some v
+        → judge l r response
+        ≡ record { first = Some v; second = None; lines = (last_part l (request_part l r)).lines } }
     ensures goes { (l : Listing) (r : Request) (response : Option Response) → (request_part l r).verdict ≡ None
         → judge l r response ≡ judged_later l response (request_part l r).state }
 {}

@@ -58,7 +58,8 @@ pub(crate) fn judge_response<L: Ledger>(
     steps: &mut Steps<L>,
 ) -> Result<Ended, NoMemory>
     ensures follows { IfOk result (λ ended. FollowsAs rules.now response state.old ended) }
-    ensures most { steps.new ≤ steps.old + (rules_in 3 rules.now.items + rules_in 4 rules.now.items + rules_in 5 rules.now.items) }
+    ensures most { steps.new ≤ steps.old
+        + (rules_in 3 rules.now.items + rules_in 4 rules.now.items + rules_in 5 rules.now.items) }
 {
     state.answer(alloc, response)?;
     let verdict = two_phases(alloc, rules, 3, 4, state, steps)?;

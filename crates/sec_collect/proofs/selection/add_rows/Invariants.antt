@@ -7,7 +7,7 @@ use Rattle.sec_collect.proofs.selection.add_rows.Given as goal
 
 abbrev pub invariant-loop-name : goal.invariant-loop-name
 invariant-loop-name g l =
-    let test = keeps g.M.Selector.meaning (zip l.all.targets.now l.all.patterns.now) l.all.removed.now (l.target, l.pattern) in
+    let test = keeps g.M.Selector.meaning (zip l.query.targets.now l.query.patterns.now) l.removed (l.target, l.pattern) in
     l.out ++ map (value_row l.target.var) (filter (λ r. test r.name) (lent l.rest)) ≡ l.fn.out ++ map (value_row l.target.var) (filter (λ r. test r.name) (lent l.rows))
 
 abbrev pub decreases-loop-name : goal.decreases-loop-name

@@ -1,4 +1,4 @@
-use Rattle.std.proofs.Common.{◌≡◌, ◌++◌, length}
+use Rattle.std.proofs.Common.{◌≡◌, ◌++◌, [], length}
 use Rattle.std.specs.Prelude.{filter, map}
 use Rattle.std.specs.List.{zip}
 use Rattle.sec_collect.specs.Lent.{lent}
@@ -9,7 +9,7 @@ use Rattle.sec_eval.proofs.matching.add_rows.Given as goal
 
 abbrev pub invariant-loop-name : goal.invariant-loop-name
 invariant-loop-name l =
-    let test = keeps is_matched (zip l.sought.targets.now l.sought.patterns.now) l.sought.removed.now (l.target, l.pattern) in
+    let test = keeps is_matched (zip l.query.targets.now l.query.patterns.now) [] (l.target, l.pattern) in
     l.out ++ matched_of l.question (map (value_row l.target.var) (filter (λ r. test r.name) (lent l.rest)))
     ≡ l.fn.out ++ matched_of l.question (map (value_row l.target.var) (filter (λ r. test r.name) (lent l.rows)))
 

@@ -1,4 +1,4 @@
-use Rattle.std.proofs.Common.{◌≡◌, ◌++◌, drop}
+use Rattle.std.proofs.Common.{◌≡◌, ◌++◌, [], drop}
 use Rattle.std.specs.List.{flat_map, zip}
 use Rattle.sec_collect.specs.Selection.{selection, values_of}
 use Rattle.sec_eval.specs.Matching.{matched_of}
@@ -7,6 +7,6 @@ use Rattle.sec_eval.proofs.matching.matches_of.Given as goal
 
 abbrev pub invariant-loop-target : goal.invariant-loop-target
 invariant-loop-target l =
-    let all = zip l.sought.targets.now l.sought.patterns.now in
-    l.out ++ matched_of l.question (flat_map (values_of is_matched all l.sought.removed.now l.vars) (zip (drop l.target-index l.sought.targets.now) l.rest))
-    ≡ matched_of l.question (selection is_matched all l.sought.removed.now l.vars)
+    let all = zip l.query.targets.now l.query.patterns.now in
+    l.out ++ matched_of l.question (flat_map (values_of is_matched all [] l.vars) (zip (drop l.target-index l.query.targets.now) l.rest))
+    ≡ matched_of l.question (selection is_matched all [] l.vars)
