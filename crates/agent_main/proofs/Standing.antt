@@ -14,37 +14,37 @@ use Rattle.agent_main.specs.declared.judge.Ticket.{Ticket}
 use Rattle.agent_main.specs.Connection.{HasNeeds, writes}
 use Rattle.agent_main.specs.Judge.{Need, Reply}
 use Rattle.sec_ast.specs.declared.listing.Listing.{Listing}
-use Rattle.agent_main.specs.Steps.{Fails, Point, Replied, Runs, Same, Talk}
+use Rattle.agent_main.specs.Steps.{Fails, ConnState, Replied, Runs, Same, OnceConn}
 use Rattle.agent_main.proofs.Moving.{exact, still}
 
 abbrev Place : Type 0
 Place = stages.Stage TheRules HalfView Ticket
 
 -- the needs that are left begin with these bytes
-abbrev Next : Listing → Point → List ℕ → Type 0
+abbrev Next : Listing → ConnState → List ℕ → Type 0
 Next rules s bytes = (left : List Need) × HasNeeds rules s.size s.input s.ended s.past (s.past ++ Write bytes ∷ left)
 
-as_it_is : (s : Point) (needs : List Need) → trace s.size (s.input ++ []) s.ended (s.replies ++ []) ≡ needs → trace s.size s.input s.ended s.replies ≡ needs
+as_it_is : (s : ConnState) (needs : List Need) → trace s.size (s.input ++ []) s.ended (s.replies ++ []) ≡ needs → trace s.size s.input s.ended s.replies ≡ needs
 as_it_is s needs e = sym (λ i. trace s.size (append-nil s.input i) s.ended (append-nil s.replies i)) ∙ e
 
 -- as they are with the judge's replies
-plainly : (rules : Listing) (s : Point) (bytes : List ℕ) (left : List Need) → Replied rules false s
+plainly : (rules : Listing) (s : ConnState) (bytes : List ℕ) (left : List Need) → Replied rules false s
     → trace s.size (s.input ++ []) s.ended (s.replies ++ []) ≡ s.past ++ Write bytes ∷ left → Next rules s bytes
 plainly rules s bytes left r is = (left, inl (ap (λ (l : List Reply). trace s.size s.input s.ended l) (sym (exact rules s r)) ∙ as_it_is s _ is))
 
-brokenly : (rules : Listing) (s : Point) (bytes : List ℕ) (left : List Need) → Replied rules true s
+brokenly : (rules : Listing) (s : ConnState) (bytes : List ℕ) (left : List Need) → Replied rules true s
     → IsBroken (trace s.size s.input s.ended s.replies) s.replies (s.past ++ Write bytes ∷ left) → Next rules s bytes
 brokenly rules s bytes left r is = (
   left,
   inr (record {
-    replied = r.front;
+    replied = r.prefix;
     unreplied = r.rest;
     past_is = r.past_is;
     is = subst (λ (l : List Reply). IsBroken (trace s.size s.input s.ended l) l (s.past ++ Write bytes ∷ left)) r.replies_are is;
   }),
 )
 
-next_plain : (rules : Listing) (c : Talk) (s : Point) (stage : Place) → Going (record c { stage = stage }) s → Replied rules false s → IsWrite false stage → Next rules s (out_of stage)
+next_plain : (rules : Listing) (c : OnceConn) (s : ConnState) (stage : Place) → Going (record c { stage = stage }) s → Replied rules false s → IsWrite false stage → Next rules s (out_of stage)
 next_plain rules c s (at.Write bytes None) g r w = plainly rules s bytes _ r (g.is [] false [])
 next_plain rules c s (at.Write bytes (Some how)) g r w = plainly rules s bytes _ r (g.is [] false [])
 next_plain rules c s at.LastWrite g r w = absurd (cc w)
@@ -67,7 +67,7 @@ next_plain rules c s (at.Finishing id) g r w = absurd w
 next_plain rules c s (at.LastLeave ticket) g r w = absurd w
 next_plain rules c s (at.Close how) g r w = absurd w
 
-next_broken : (rules : Listing) (c : Talk) (s : Point) (stage : Place) → Broken (record c { stage = stage }) s → Replied rules true s → IsWrite true stage → Next rules s (out_of stage)
+next_broken : (rules : Listing) (c : OnceConn) (s : ConnState) (stage : Place) → Broken (record c { stage = stage }) s → Replied rules true s → IsWrite true stage → Next rules s (out_of stage)
 next_broken rules c s at.LastWrite b r w = brokenly rules s _ _ r b.trace_is
 next_broken rules c s (at.Write bytes then) b r w = absurd (cc w)
 next_broken rules c s at.Bytes b r w = absurd w
@@ -89,21 +89,21 @@ next_broken rules c s (at.Finishing id) b r w = absurd w
 next_broken rules c s (at.LastLeave ticket) b r w = absurd w
 next_broken rules c s (at.Close how) b r w = absurd w
 
-next_as : (rules : Listing) (broken : Bool) (c : Talk) (s : Point) → StandsAs broken c s → IsWrite broken c.stage → Replied rules broken s → Next rules s (out_of c.stage)
+next_as : (rules : Listing) (broken : Bool) (c : OnceConn) (s : ConnState) → StandsAs broken c s → IsWrite broken c.stage → Replied rules broken s → Next rules s (out_of c.stage)
 next_as rules false c s h w r = next_plain rules c s c.stage h.going r w
 next_as rules true c s h w r = next_broken rules c s c.stage h r w
 
 -- a write of what is to be written failed behind a front of it
-pub fails : (rules : Listing) (c : Talk) (s : Point) (old before now : Option (List ℕ)) (front back : List ℕ)
+pub fails : (rules : Listing) (c : OnceConn) (s : ConnState) (old before now : Option (List ℕ)) (front back : List ℕ)
     → Runs rules c s old before → IsWrite c.broken c.stage → front ++ back ≡ out_of c.stage → Adds before front now → Fails rules s old now
 fails rules c s old before now front back r w is adds =
     let next = next_as rules c.broken c s r.stands.stands w r.replied in
     let parts = subst (λ (l : List ℕ). Next rules s l) (sym is) next in
     record {
       past = s.past;
-      front = front;
-      back = back;
-      left = parts.0;
+      prefix = front;
+      rest = back;
+      later = parts.0;
       needs = parts.1;
       added = adds_both old before now (writes s.past) front r.added adds;
     }
@@ -131,15 +131,15 @@ open_at (at.LastLeave ticket) h = refl
 open_at at.LastWrite h = refl
 open_at (at.Close how) h = absurd h
 
-pub listens_at : (c : Talk) → IsBytes c.stage → c.broken ≡ false → listens c ≡ true
+pub listens_at : (c : OnceConn) → IsBytes c.stage → c.broken ≡ false → listens c ≡ true
 listens_at c h whole = ap (λ (b : Bool). cond b false (is_open c.stage)) whole ∙ open_at c.stage h
 
 -- what is broken doesn't listen, and stays as it is
-broken_stays : (c d : Talk) → (listens c ≡ false → d ≡ c) → c.broken ≡ true → d.broken ≡ true
-broken_stays c d deaf is = ap (λ (t : Talk). t.broken) (deaf (ap (λ (b : Bool). cond b false (is_open c.stage)) is)) ∙ is
+broken_stays : (c d : OnceConn) → (listens c ≡ false → d ≡ c) → c.broken ≡ true → d.broken ≡ true
+broken_stays c d deaf is = ap (λ (t : OnceConn). t.broken) (deaf (ap (λ (b : Bool). cond b false (is_open c.stage)) is)) ∙ is
 
 -- what it has said is the same behind a piece, or at the end of the input
-runs_if : (b : Bool) (rules : Listing) (c d : Talk) (s t : Point) (old held : Option (List ℕ)) → (c.broken ≡ true → d.broken ≡ true) → t.replies ≡ s.replies → t.past ≡ s.past
+runs_if : (b : Bool) (rules : Listing) (c d : OnceConn) (s t : ConnState) (old held : Option (List ℕ)) → (c.broken ≡ true → d.broken ≡ true) → t.replies ≡ s.replies → t.past ≡ s.past
     → Runs rules c s old held → Stands d (cond b t s) → Runs rules d (cond b t s) old held
 runs_if true rules c d s t old held stays replies past r stands = record {
   stands = stands;
@@ -148,24 +148,24 @@ runs_if true rules c d s t old held stays replies past r stands = record {
 }
 runs_if false rules c d s t old held stays replies past r stands = record { stands = stands; replied = still rules c.broken d.broken s s stays refl refl r.replied; added = r.added }
 
-pub runs_fed : (rules : Listing) (c d : Talk) (s : Point) (piece : List ℕ) (old held : Option (List ℕ)) → (listens c ≡ false → d ≡ c) → Runs rules c s old held
+pub runs_fed : (rules : Listing) (c d : OnceConn) (s : ConnState) (piece : List ℕ) (old held : Option (List ℕ)) → (listens c ≡ false → d ≡ c) → Runs rules c s old held
     → Stands d (fed c piece s) → Runs rules d (fed c piece s) old held
 runs_fed rules c d s piece old held deaf r stands = runs_if (listens c) rules c d s _ old held (broken_stays c d deaf) refl refl r stands
 
-pub runs_shut : (rules : Listing) (c d : Talk) (s : Point) (old held : Option (List ℕ)) → (listens c ≡ false → d ≡ c) → Runs rules c s old held → Stands d (shut c s)
+pub runs_shut : (rules : Listing) (c d : OnceConn) (s : ConnState) (old held : Option (List ℕ)) → (listens c ≡ false → d ≡ c) → Runs rules c s old held → Stands d (shut c s)
     → Runs rules d (shut c s) old held
 runs_shut rules c d s old held deaf r stands = runs_if (listens c) rules c d s _ old held (broken_stays c d deaf) refl refl r stands
 
-pub fed_is : (c : Talk) (s : Point) (piece : List ℕ) → listens c ≡ true
+pub fed_is : (c : OnceConn) (s : ConnState) (piece : List ℕ) → listens c ≡ true
     → fed c piece s ≡ record { size = s.size; input = s.input ++ piece; ended = s.ended; replies = s.replies; past = s.past }
 fed_is c s piece e = ap (λ (b : Bool). cond b (record { size = s.size; input = s.input ++ piece; ended = s.ended; replies = s.replies; past = s.past }) s) e
 
-pub shut_is : (c : Talk) (s : Point) → listens c ≡ true
+pub shut_is : (c : OnceConn) (s : ConnState) → listens c ≡ true
     → shut c s ≡ record { size = s.size; input = s.input; ended = true; replies = s.replies; past = s.past }
 shut_is c s e = ap (λ (b : Bool). cond b (record { size = s.size; input = s.input; ended = true; replies = s.replies; past = s.past }) s) e
 
 -- an input that has ended is not waited for
-pub never_waits : (c : Talk) (s t : Point) → listens c ≡ true → Same (shut c s) t → WaitsForBytes t → ⊥
+pub never_waits : (c : OnceConn) (s t : ConnState) → listens c ≡ true → Same (shut c s) t → WaitsForBytes t → ⊥
 never_waits c s t hears same waits =
-    let over : t.ended ≡ true = same.ended ∙ ap (λ (p : Point). p.ended) (shut_is c s hears) in
+    let over : t.ended ≡ true = same.ended ∙ ap (λ (p : ConnState). p.ended) (shut_is c s hears) in
     absurd (cc (sym over ∙ waits.on))

@@ -10,13 +10,14 @@ use Rattle.agent_conf.specs.declared.conf.Conf.{Conf}
 use Rattle.agent_conf.specs.declared.fault.ConfFault.{ConfFault}
 use Rattle.agent_conf.specs.Faults.{reading}
 use Rattle.agent_conf.specs.Words.{kind_of, word_of}
+use Rattle.agent_main.specs.declared.check.TheConstants.{MOST_CONF}
 use Rattle.agent_main.specs.FaultLines.{line_of}
 use Rattle.agent_main.specs.Listings.{listing_in}
 
 -- the text of the configuration, which has at most 1 MiB
 abbrev pub text_of : List ℕ → Option (List ℕ) → Result (List ℕ) (List ℕ)
 text_of name None = Err (line_of name (codes "NoFile") [])
-text_of name (Some text) = if nat_lt 1048576 (length text) then Err (line_of name (codes "TooLong") []) else Ok text
+text_of name (Some text) = if nat_lt MOST_CONF (length text) then Err (line_of name (codes "TooLong") []) else Ok text
 
 abbrev pub conf_in : List ℕ → Result Conf ConfFault → Result Conf (List ℕ)
 conf_in name (Ok conf) = Ok conf

@@ -10,8 +10,10 @@ use Rattle.conn_core.specs.declared.answer.BegunAnswer as answers
 use Rattle.conn_core.specs.declared.answer.BegunAnswer.TheVariants as beguns
 use Rattle.conn_core.specs.Trace as trace
 use Rattle.conn_core.specs.Trace.{Look, Enter, Begin, Resume, Finish, Found, Refused, Interrupted, Goes, NotParked, Ended}
+use Rattle.agent_main.specs.declared.judge.TheConstants.{LIFE}
 use Rattle.agent_main.specs.declared.judge.TheRules.{TheRules}
 use Rattle.agent_main.specs.declared.judge.Ticket.{Ticket}
+use Rattle.agent_main.specs.declared.verdicts.TheConstants.{GENERATION}
 
 abbrev pub Need : Type 0
 Need = trace.Need TheRules HalfView Ticket
@@ -21,7 +23,7 @@ Reply = trace.Reply TheRules HalfView Ticket
 
 -- the first verdict; where there is none, the request goes on under these rules
 abbrev pub reply_of : Listing → Request → Option Verdict → Reply
-reply_of rules request None = Goes (record { generation = 1; listing = rules; request = request })
+reply_of rules request None = Goes (record { generation = GENERATION; listing = rules; request = request })
 reply_of rules request (Some verdict) = Interrupted verdict
 
 -- a request is judged alone
@@ -30,7 +32,7 @@ judged rules request = reply_of rules request (judge rules request None).first
 
 -- Every application has these rules, and its responses are not judged. So no request is parked, and none is found.
 abbrev pub reply_to : Listing → Need → List Reply
-reply_to rules (Look app) = Found (record {}) (record { responses = false; life = 60000 }) ∷ []
+reply_to rules (Look app) = Found (record {}) (record { responses = false; life = LIFE }) ∷ []
 reply_to rules (Begin handle request) = judged rules request ∷ []
 reply_to rules (Enter key) = Refused 3 ∷ []
 reply_to rules (Resume key) = NotParked ∷ []

@@ -1,7 +1,7 @@
 pub mod Check
 pub mod Connection
 pub mod FaultLines
-pub mod Halted
+pub mod CommandFaults
 pub mod Judge
 pub mod Listings
 pub mod Report

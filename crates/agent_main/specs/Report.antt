@@ -1,24 +1,32 @@
 -- What a command writes, and the status that it ends with.
 use Rattle.std.specs.Prelude.{◌≡◌, ◌⊎◌, ℕ, List, ◌++◌, Option, Result, Ok, Err}
+use Rattle.waf_io.specs.Counts.{Rose}
 use Rattle.waf_io.specs.Sink.{Adds}
+use Rattle.agent_main.specs.declared.exit_status.TheConstants.{DONE, REFUSED, READ_FAULT, WRITE_FAULT, OUT_OF_MEMORY}
 
--- some front of the bytes was added
-abbrev pub AddsFront : Option (List ℕ) → List ℕ → Option (List ℕ) → Type 0
-AddsFront old bytes new = (front : List ℕ) × (rest : List ℕ) × (front ++ rest ≡ bytes) × Adds old front new
+-- some prefix of the bytes was added
+abbrev pub AddsPrefix : Option (List ℕ) → List ℕ → Option (List ℕ) → Type 0
+AddsPrefix old bytes new = (prefix : List ℕ) × (rest : List ℕ) × (prefix ++ rest ≡ bytes) × Adds old prefix new
 
--- the bytes were written and that is the status, or a write failed behind some front of them
+-- the bytes were written and that is the status, or a write failed after some prefix of them
 abbrev pub Reports : ℕ → ℕ → List ℕ → Option (List ℕ) → Option (List ℕ) → Type 0
-Reports result status bytes old new = ((result ≡ status) × Adds old bytes new) ⊎ ((result ≡ 5) × AddsFront old bytes new)
+Reports result status bytes old new =
+    ((result ≡ status) × Adds old bytes new) ⊎ ((result ≡ WRITE_FAULT) × AddsPrefix old bytes new)
 
--- nothing was written, since a read failed or memory ran out
-abbrev pub GivesUp : ℕ → Option (List ℕ) → Option (List ℕ) → Type 0
-GivesUp result old new = ((result ≡ 4) ⊎ (result ≡ 6)) × (new ≡ old)
+-- out of memory before anything was written
+abbrev pub OutOfMemory : ℕ → Option (List ℕ) → Option (List ℕ) → Type 0
+OutOfMemory result old new = (result ≡ OUT_OF_MEMORY) × (new ≡ old)
 
--- the bytes were reported under that status, or it gave up before
-abbrev pub Prints : ℕ → ℕ → List ℕ → Option (List ℕ) → Option (List ℕ) → Type 0
-Prints result status bytes old new = Reports result status bytes old new ⊎ GivesUp result old new
+-- a file could not be read before anything was written: the count of faults of the files rose from `before` to `now`
+abbrev pub FilesFail : ℕ → ℕ → ℕ → Option (List ℕ) → Option (List ℕ) → Type 0
+FilesFail result before now old new = (result ≡ READ_FAULT) × Rose before now × (new ≡ old)
 
--- a text with status 0, or a fault's line with status 3
-abbrev pub Answers : ℕ → Result (List ℕ) (List ℕ) → Option (List ℕ) → Option (List ℕ) → Type 0
-Answers result (Ok text) old new = Prints result 0 text old new
-Answers result (Err line) old new = Prints result 3 line old new
+-- the bytes were reported under that status, or nothing was written
+abbrev pub Prints : ℕ → ℕ → List ℕ → ℕ → ℕ → Option (List ℕ) → Option (List ℕ) → Type 0
+Prints result status bytes before now old new =
+    Reports result status bytes old new ⊎ (FilesFail result before now old new ⊎ OutOfMemory result old new)
+
+-- a text, or the line of a fault
+abbrev pub Answers : ℕ → Result (List ℕ) (List ℕ) → ℕ → ℕ → Option (List ℕ) → Option (List ℕ) → Type 0
+Answers result (Ok text) before now old new = Prints result DONE text before now old new
+Answers result (Err line) before now old new = Prints result REFUSED line before now old new

@@ -2,13 +2,15 @@ ghost use Rattle.std.specs.Prelude.{◌≡◌, ◌≢◌, ◌≤◌, Err, IfOk, 
 ghost use Rattle.waf_io.specs.Counts.{Rose};
 ghost use Rattle.agent_conf.specs.Faults.{reading};
 ghost use Rattle.sec_read.specs.Names.{beside};
-ghost use Rattle.agent_main.specs.declared.halt.Halt.TheVariants as halts;
+ghost use Rattle.agent_main.specs.declared.exit_status.TheConstants.{OTHER_WORDS, READ_FAULT, UNFINISHED, WRITE_FAULT};
+ghost use Rattle.agent_main.specs.declared.command_fault.CommandFault.TheVariants as faults;
 ghost use Rattle.agent_main.specs.Check.{app_in, apps_in, checked, conf_in, text_of};
-ghost use Rattle.agent_main.specs.Halted.{Appends, Tells};
+ghost use Rattle.agent_main.specs.CommandFaults.{Appends, Tells};
 ghost use Rattle.agent_main.specs.Report.{Answers};
 
+use crate::command_fault::CommandFault;
+use crate::exit_status::{DONE, OUT_OF_MEMORY, READ_FAULT, REFUSED};
 use crate::fault_lines::line_of;
-use crate::halt::Halt;
 use crate::listings::rules_of_all;
 use crate::report::report;
 use agent_conf::{AppConf, Conf, ConfFault, read_conf};
@@ -18,26 +20,30 @@ use std::alloc::Global;
 use waf_io::{FileAnswer, Files, Sink};
 use waf_plain::{Bytes, NoMemory, Seq};
 
+// The most bytes of a configuration: 1 MiB.
+pub const MOST_CONF: u64 = 1048576;
+
 // Prints the listing of each application of the configuration under that name.
 pub fn check<F: Files, K: Sink>(alloc: Global, name: &[u8], files: &mut F, output: &mut K) -> u8
-    ensures other { (result ≢ 1) × (result ≢ 2) }
-    ensures checked { IfSome (F.content files.old) (λ told. Answers result (checked told name.now) (K.held output.old) (K.held output.new)) }
-    ensures read_fault { result ≡ 4 → Rose (F.faults files.old) (F.faults files.new) }
-    ensures write_fault { result ≡ 5 → Rose (K.faults output.old) (K.faults output.new) }
+    ensures other { (result ≢ UNFINISHED) × (result ≢ OTHER_WORDS) }
+    ensures checked { IfSome (F.content files.old) (λ told. Answers result (checked told name.now)
+        (F.faults files.old) (F.faults files.new) (K.held output.old) (K.held output.new)) }
+    ensures read_fault { result ≡ READ_FAULT → Rose (F.faults files.old) (F.faults files.new) }
+    ensures write_fault { result ≡ WRITE_FAULT → Rose (K.faults output.old) (K.faults output.new) }
 {
     match checked(alloc, name, files) {
-        Ok(text) => report(output, text.as_slice(), 0),
-        Err(Halt::Line(line)) => report(output, line.as_slice(), 3),
-        Err(Halt::ReadFault) => 4,
-        Err(Halt::NoMemory) => 6,
+        Ok(text) => report(output, text.as_slice(), DONE),
+        Err(CommandFault::Line(line)) => report(output, line.as_slice(), REFUSED),
+        Err(CommandFault::ReadFault) => READ_FAULT,
+        Err(CommandFault::NoMemory) => OUT_OF_MEMORY,
     }
 }
 
 // The text of all applications.
 #[tactic(auto, unfolding(crate::specs::Check::checked))]
-fn checked<F: Files>(alloc: Global, name: &[u8], files: &mut F) -> Result<Bytes, Halt>
+fn checked<F: Files>(alloc: Global, name: &[u8], files: &mut F) -> Result<Bytes, CommandFault>
     ensures told { IfSome (F.content files.old) (λ told. Tells result (checked told name.now)) }
-    ensures cause { result ≡ Err halts.ReadFault → Rose (F.faults files.old) (F.faults files.new) }
+    ensures cause { result ≡ Err faults.ReadFault → Rose (F.faults files.old) (F.faults files.new) }
 {
     let text = conf_text(alloc, name, files)?;
     let conf = conf_in(alloc, name, text.as_slice())?;
@@ -45,29 +51,29 @@ fn checked<F: Files>(alloc: Global, name: &[u8], files: &mut F) -> Result<Bytes,
 }
 
 // The text of a configuration file.
-fn conf_text<F: Files>(alloc: Global, name: &[u8], files: &mut F) -> Result<Bytes, Halt>
+fn conf_text<F: Files>(alloc: Global, name: &[u8], files: &mut F) -> Result<Bytes, CommandFault>
     ensures told { IfSome (F.content files.old) (λ told. Tells result (text_of name.now (told name.now))) }
     ensures same { F.content files.new ≡ F.content files.old }
     ensures later { F.faults files.old ≤ F.faults files.new }
-    ensures cause { result ≡ Err halts.ReadFault → Rose (F.faults files.old) (F.faults files.new) }
+    ensures cause { result ≡ Err faults.ReadFault → Rose (F.faults files.old) (F.faults files.new) }
 {
-    match files.read_file(alloc, name, 1048576) {
+    match files.read_file(alloc, name, MOST_CONF) {
         FileAnswer::Content(text) => Ok(text),
-        FileAnswer::Absent => Err(Halt::Line(line_of(alloc, name, b"NoFile", b"")?)),
-        FileAnswer::TooLong => Err(Halt::Line(line_of(alloc, name, b"TooLong", b"")?)),
-        FileAnswer::Failed => Err(Halt::ReadFault),
-        FileAnswer::NoMemory => Err(Halt::NoMemory),
+        FileAnswer::Absent => Err(CommandFault::Line(line_of(alloc, name, b"NoFile", b"")?)),
+        FileAnswer::TooLong => Err(CommandFault::Line(line_of(alloc, name, b"TooLong", b"")?)),
+        FileAnswer::Failed => Err(CommandFault::ReadFault),
+        FileAnswer::NoMemory => Err(CommandFault::NoMemory),
     }
 }
 
-fn conf_in(alloc: Global, name: &[u8], text: &[u8]) -> Result<Conf, Halt>
+fn conf_in(alloc: Global, name: &[u8], text: &[u8]) -> Result<Conf, CommandFault>
     ensures told { Tells result (conf_in name.now (reading text.now)) }
-    ensures no_read { result ≢ Err halts.ReadFault }
+    ensures no_read { result ≢ Err faults.ReadFault }
 {
     match read_conf(alloc, text) {
         Ok(conf) => Ok(conf),
-        Err(ConfFault::NoMemory) => Err(Halt::NoMemory),
-        Err(fault) => Err(Halt::Line(line_of(alloc, name, fault.kind(), fault.word())?)),
+        Err(ConfFault::NoMemory) => Err(CommandFault::NoMemory),
+        Err(fault) => Err(CommandFault::Line(line_of(alloc, name, fault.kind(), fault.word())?)),
     }
 }
 
@@ -77,9 +83,9 @@ fn apps_in<F: Files>(
     conf: &[u8],
     apps: &[AppConf],
     files: &mut F,
-) -> Result<Bytes, Halt>
+) -> Result<Bytes, CommandFault>
     ensures told { IfSome (F.content files.old) (λ told. Tells result (apps_in told conf.now apps.now)) }
-    ensures cause { result ≡ Err halts.ReadFault → Rose (F.faults files.old) (F.faults files.new) }
+    ensures cause { result ≡ Err faults.ReadFault → Rose (F.faults files.old) (F.faults files.new) }
 {
     let mut text = Bytes::new(alloc);
     for app in apps {
@@ -95,11 +101,11 @@ fn push_app<F: Files>(
     app: &AppConf,
     files: &mut F,
     text: &mut Bytes,
-) -> Result<(), Halt>
+) -> Result<(), CommandFault>
     ensures told { IfSome (F.content files.old) (λ told. Appends result (app_in told conf.now app.now) text.old text.new) }
     ensures same { F.content files.new ≡ F.content files.old }
     ensures later { F.faults files.old ≤ F.faults files.new }
-    ensures cause { result ≡ Err halts.ReadFault → Rose (F.faults files.old) (F.faults files.new) }
+    ensures cause { result ≡ Err faults.ReadFault → Rose (F.faults files.old) (F.faults files.new) }
 {
     let names = names_beside(alloc, conf, app.rules.as_slice())?;
     let rules = rules_of_all(alloc, &names, files)?;

@@ -13,6 +13,9 @@ use tx_core::{Begun, Half};
 use waf_plain::NoMemory;
 use web_parts::Request;
 
+// How long a request would be parked, in milliseconds, if its response were judged.
+pub const LIFE: u64 = 60000;
+
 // What stands for the rules, which every application has.
 #[derive(Clone, Copy, Debug, PartialEq, Eq)]
 pub struct TheRules {}
@@ -22,43 +25,43 @@ pub struct TheRules {}
 pub struct Ticket {}
 
 // A connection under some rules.
-pub type Talk = Conn<TheRules, Half, Ticket>;
+pub type OnceConn = Conn<TheRules, Half, Ticket>;
 
-ghost use Rattle.agent_main.specs.Steps.{Acts, Runs, Point};
+ghost use Rattle.agent_main.specs.Steps.{Acts, Runs, ConnState};
 
 // Every application has the rules, and its responses are not judged.
-pub fn look(talk: &mut Talk)
-    requires { At Need.Look talk.old.broken talk.old.stage }
-    ensures acts { (rules : _) (held : Option (List ℕ)) → Acts rules talk.old talk.new held held }
-    ensures fewer { calls_left talk.new < calls_left talk.old }
+pub fn look(conn: &mut OnceConn)
+    requires { At Need.Look conn.old.broken conn.old.stage }
+    ensures acts { (rules : _) (held : Option (List ℕ)) → Acts rules conn.old conn.new held held }
+    ensures fewer { calls_left conn.new < calls_left conn.old }
 {
-    talk.give_look(LookAnswer::Found {
+    conn.give_look(LookAnswer::Found {
         rules: TheRules {},
         settings: Settings {
             responses: false,
-            life: 60000,
+            life: LIFE,
         },
     });
 }
 
 // There is no room in a table that nobody needs.
-pub fn enter(talk: &mut Talk)
-    requires { At Need.Enter talk.old.broken talk.old.stage }
-    ensures acts { (rules : _) (held : Option (List ℕ)) → Acts rules talk.old talk.new held held }
-    ensures fewer { calls_left talk.new < calls_left talk.old }
+pub fn enter(conn: &mut OnceConn)
+    requires { At Need.Enter conn.old.broken conn.old.stage }
+    ensures acts { (rules : _) (held : Option (List ℕ)) → Acts rules conn.old conn.new held held }
+    ensures fewer { calls_left conn.new < calls_left conn.old }
 {
-    let _ = talk.take_key();
-    talk.give_entry(EntryAnswer::Full);
+    let _ = conn.take_key();
+    conn.give_entry(EntryAnswer::Full);
 }
 
 // The request is judged by the rules.
-pub fn begin(alloc: Global, rules: &Arc<Ruleset, Global>, talk: &mut Talk)
-    requires { At Need.Begin talk.old.broken talk.old.stage }
-    ensures acts { (held : Option (List ℕ)) → Acts (arc_value rules.now) talk.old talk.new held held }
-    ensures fewer { calls_left talk.new < calls_left talk.old }
+pub fn begin(alloc: Global, rules: &Arc<Ruleset, Global>, conn: &mut OnceConn)
+    requires { At Need.Begin conn.old.broken conn.old.stage }
+    ensures acts { (held : Option (List ℕ)) → Acts (arc_value rules.now) conn.old conn.new held held }
+    ensures fewer { calls_left conn.new < calls_left conn.old }
 {
-    let (_, request) = talk.take_begin();
-    talk.give_begun(judged(alloc, rules, request));
+    let (_, request) = conn.take_begin();
+    conn.give_begun(judged(alloc, rules, request));
 }
 
 fn judged(alloc: Global, rules: &Arc<Ruleset, Global>, request: Request) -> BegunAnswer<Half>
@@ -72,49 +75,49 @@ fn judged(alloc: Global, rules: &Arc<Ruleset, Global>, request: Request) -> Begu
 }
 
 // Nothing is kept of what would be parked.
-pub fn park(talk: &mut Talk)
-    requires { At Need.Park talk.old.broken talk.old.stage }
-    ensures acts { (rules : _) (held : Option (List ℕ)) → Acts rules talk.old talk.new held held }
-    ensures fewer { calls_left talk.new < calls_left talk.old }
+pub fn park(conn: &mut OnceConn)
+    requires { At Need.Park conn.old.broken conn.old.stage }
+    ensures acts { (rules : _) (held : Option (List ℕ)) → Acts rules conn.old conn.new held held }
+    ensures fewer { calls_left conn.new < calls_left conn.old }
 {
-    let (_, _, half) = talk.take_park();
+    let (_, _, half) = conn.take_park();
     drop(half);
 }
 
-pub fn leave(talk: &mut Talk)
-    requires { At Need.Leave talk.old.broken talk.old.stage }
-    ensures acts { (rules : _) (held : Option (List ℕ)) → Acts rules talk.old talk.new held held }
-    ensures fewer { calls_left talk.new < calls_left talk.old }
+pub fn leave(conn: &mut OnceConn)
+    requires { At Need.Leave conn.old.broken conn.old.stage }
+    ensures acts { (rules : _) (held : Option (List ℕ)) → Acts rules conn.old conn.new held held }
+    ensures fewer { calls_left conn.new < calls_left conn.old }
 {
-    let _ = talk.take_leave();
+    let _ = conn.take_leave();
 }
 
 // A request that passed has its last phase, whose lines nobody asks for.
-pub fn retire(alloc: Global, talk: &mut Talk)
-    requires { At Need.Retire talk.old.broken talk.old.stage }
-    ensures acts { (rules : _) (held : Option (List ℕ)) → Acts rules talk.old talk.new held held }
-    ensures fewer { calls_left talk.new < calls_left talk.old }
+pub fn retire(alloc: Global, conn: &mut OnceConn)
+    requires { At Need.Retire conn.old.broken conn.old.stage }
+    ensures acts { (rules : _) (held : Option (List ℕ)) → Acts rules conn.old conn.new held held }
+    ensures fewer { calls_left conn.new < calls_left conn.old }
 {
-    let half = talk.take_retire();
-    talk.give_retired(retired(alloc, half).is_ok());
+    let half = conn.take_retire();
+    conn.give_retired(retired(alloc, half).is_ok());
 }
 
 // No request is parked.
-pub fn resume(talk: &mut Talk)
-    requires { At Need.Resume talk.old.broken talk.old.stage }
-    ensures acts { (rules : _) (held : Option (List ℕ)) → Acts rules talk.old talk.new held held }
-    ensures fewer { calls_left talk.new < calls_left talk.old }
+pub fn resume(conn: &mut OnceConn)
+    requires { At Need.Resume conn.old.broken conn.old.stage }
+    ensures acts { (rules : _) (held : Option (List ℕ)) → Acts rules conn.old conn.new held held }
+    ensures fewer { calls_left conn.new < calls_left conn.old }
 {
-    let _ = talk.take_key();
-    talk.give_claim(None);
+    let _ = conn.take_key();
+    conn.give_claim(None);
 }
 
-pub fn finish(talk: &mut Talk)
-    requires { At Need.Finish talk.old.broken talk.old.stage }
-    ensures acts { (rules : _) (held : Option (List ℕ)) → Acts rules talk.old talk.new held held }
-    ensures fewer { calls_left talk.new < calls_left talk.old }
+pub fn finish(conn: &mut OnceConn)
+    requires { At Need.Finish conn.old.broken conn.old.stage }
+    ensures acts { (rules : _) (held : Option (List ℕ)) → Acts rules conn.old conn.new held held }
+    ensures fewer { calls_left conn.new < calls_left conn.old }
 {
-    let (half, response) = talk.take_finish();
+    let (half, response) = conn.take_finish();
     drop((half, response));
-    talk.give_ended(EndedAnswer::Verdict(None));
+    conn.give_ended(EndedAnswer::Verdict(None));
 }

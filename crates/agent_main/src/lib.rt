@@ -1,9 +1,14 @@
 //! The commands of the agent over whatever gives it words, files, input and output.
+//!
+//! `offline_main(alloc, words, &mut files, &mut input, &mut output)` does what the words ask for, and answers the
+//! exit status. What `once` writes for a connection stands in `specs/Connection.antt`, what `check` prints in
+//! `specs/Check.antt`.
 #![tactic(auto)]
 
 mod check;
+mod command_fault;
+mod exit_status;
 mod fault_lines;
-mod halt;
 mod judge;
 mod listings;
 mod offline;

@@ -2,12 +2,14 @@ ghost use Rattle.std.specs.Prelude.{◌≡◌, ◌⊎◌, Err, IfSome, List, Non
 ghost use Rattle.waf_io.specs.Counts.{Rose};
 ghost use Rattle.agent_main.specs.Check.{checked};
 ghost use Rattle.agent_main.specs.Listings.{listing_under};
-ghost use Rattle.agent_main.specs.Report.{Answers, Prints, Reports};
+ghost use Rattle.agent_main.specs.Report.{Answers, FilesFail, Prints, Reports};
 ghost use Rattle.sec_ast.specs.declared.listing.Listing.{Listing};
 ghost use Rattle.agent_main.specs.Run.{Exits};
+ghost use Rattle.agent_main.specs.declared.exit_status.TheConstants.{OTHER_WORDS, READ_FAULT, REFUSED, UNFINISHED, WRITE_FAULT};
 ghost use Rattle.agent_main.specs.Words.{conf_named, rules_named, usage_line};
 
 use crate::check::check;
+use crate::exit_status::OTHER_WORDS;
 use crate::once::once;
 use crate::report::report;
 use crate::words::named_by;
@@ -36,32 +38,42 @@ pub fn offline_main<F: Files, S: Source, K: Sink>(
     output: &mut K,
 ) -> u8
     // Words that are not taken
-    ensures usage { conf_named words ≡ None → rules_named words ≡ None → Reports result 2 usage_line (K.held output.old) (K.held output.new) }
-    ensures taken { result ≡ 2 → (conf_named words ≡ None) × (rules_named words ≡ None) }
+    ensures usage { conf_named words ≡ None → rules_named words ≡ None
+        → Reports result OTHER_WORDS usage_line (K.held output.old) (K.held output.new) }
+    ensures taken { result ≡ OTHER_WORDS → (conf_named words ≡ None) × (rules_named words ≡ None) }
 
     // A check, where the files are told: the listings of all applications, or the line of the first fault
     ensures checked { IfSome (F.content files.old) (λ told. (name : List ℕ) → conf_named words ≡ Some name
-        → Answers result (checked told name) (K.held output.old) (K.held output.new)) }
+        → Answers result (checked told name)
+        (F.faults files.old) (F.faults files.new) (K.held output.old) (K.held output.new)) }
 
     // Rules that are refused, where the files are told
-    ensures refused { IfSome (F.content files.old) (λ told. (name line : List ℕ) → rules_named words ≡ Some name → listing_under told name ≡ Err line
-        → Prints result 3 line (K.held output.old) (K.held output.new)) }
+    ensures refused { IfSome (F.content files.old) (λ told. (name line : List ℕ) →
+        rules_named words ≡ Some name → listing_under told name ≡ Err line
+        → Prints result REFUSED line (F.faults files.old) (F.faults files.new) (K.held output.old) (K.held output.new)) }
+    ensures unread { result ≡ REFUSED → S.left input.new ≡ S.left input.old }
 
     // The connection under the rules, where files and input are told
     ensures served { IfSome (F.content files.old) (λ told. IfSome (S.left input.old) (λ bytes.
         (name : List ℕ) (rules : Listing) → rules_named words ≡ Some name → listing_under told name ≡ Ok rules
-        → Exits result rules 16380 bytes (K.held output.old) (K.held output.new))) }
+        → Exits result rules bytes (S.left input.new) (K.held output.old) (K.held output.new)
+        ⊎ FilesFail result (F.faults files.old) (F.faults files.new) (K.held output.old) (K.held output.new))) }
 
     // Causes, whatever is told
-    ensures once_alone { result ≡ 1 → conf_named words ≡ None }
-    ensures read_fault { result ≡ 4 → Rose (F.faults files.old) (F.faults files.new) ⊎ Rose (S.faults input.old) (S.faults input.new) }
-    ensures write_fault { result ≡ 5 → Rose (K.faults output.old) (K.faults output.new) }
+    ensures once_alone { result ≡ UNFINISHED → conf_named words ≡ None }
+    ensures read_fault { result ≡ READ_FAULT
+        → Rose (F.faults files.old) (F.faults files.new) ⊎ Rose (S.faults input.old) (S.faults input.new) }
+    ensures write_fault { result ≡ WRITE_FAULT → Rose (K.faults output.old) (K.faults output.new) }
 {
     if let Some(name) = named_by(b"check", words.as_slice()) {
         return check(alloc, name, files, output);
     }
     match named_by(b"once", words.as_slice()) {
         Some(name) => once(alloc, name, files, input, output),
-        None => report(output, b"usage: yefontsila check CONF | once RULES\n", 2),
+        None => report(
+            output,
+            b"usage: yefontsila check CONF | once RULES\n",
+            OTHER_WORDS,
+        ),
     }
 }

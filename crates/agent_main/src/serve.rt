@@ -1,25 +1,35 @@
-ghost use Rattle.std.specs.Prelude.{◌≡◌, ◌≢◌, ◌<◌, ◌≤◌, IfSome, length, List, None, Option, Some, true, ℕ};
+ghost use Rattle.std.specs.Prelude.{◌≡◌, ◌≢◌, ◌<◌, ◌≤◌, length, List, None, Option, Some, true, ℕ};
 ghost use Rattle.std.specs.Arc.{arc_value};
 ghost use Rattle.waf_io.specs.Counts.{Rose};
 ghost use Rattle.waf_io.specs.Source.{Reads};
 ghost use Rattle.conn_core.specs.Calls.{At};
 ghost use Rattle.conn_core.specs.Stands.{calls_left, listens, opening, Stands};
+ghost use Rattle.agent_main.specs.Connection.{Serves};
+ghost use Rattle.agent_main.specs.Steps.{EndsHere, Hears, IsServing, Progresses, Stepped};
+ghost use Rattle.agent_main.specs.declared.serve.TheConstants.{OWN_SIZE};
 
-use crate::judge::{Talk, begin, enter, finish, leave, look, park, resume, retire};
+use crate::judge::{OnceConn, begin, enter, finish, leave, look, park, resume, retire};
 use conn_core::{Closing, Conn, Need};
 use sec_compile::Ruleset;
 use std::alloc::Global;
 use std::sync::Arc;
 use waf_io::{Got, Sink, Source, Wrote, write_whole};
 
-// The longest frame that the agent offers to take, and as many bytes as it takes of one connection.
-const OWN_SIZE: u32 = 16380;
+// The longest frame that the agent offers to take.
+pub const OWN_SIZE: u32 = 16380;
 
-const MOST_BYTES: u64 = 4611686018427387904;
+// As many bytes as are taken of one connection: 2 to the 62nd power.
+pub const MOST_BYTES: u64 = 4611686018427387904;
+
+// As many bytes as are read at a time.
+const PIECE_SIZE: usize = 4096;
+
+// The status of a DISCONNECT of an agent that is out of memory.
+pub const NO_RESOURCES: u32 = 13;
 
 // How serving a connection ended.
 #[derive(Clone, Copy, Debug, PartialEq, Eq)]
-pub enum End {
+pub enum ConnEnd {
     Closed(Closing),
     // as many bytes were taken as ever are
     Spent,
@@ -31,7 +41,7 @@ pub enum End {
 
 // Where a connection stands when its needs were done.
 #[derive(Clone, Copy, Debug, PartialEq, Eq)]
-pub enum Turn {
+pub enum Progress {
     // it waits for bytes
     Waits,
     Closes(Closing),
@@ -39,25 +49,23 @@ pub enum Turn {
     Fails,
 }
 
-ghost use Rattle.agent_main.specs.Connection.{Ends};
-ghost use Rattle.agent_main.specs.Steps.{EndsHere, Hears, Point, Runs, Stepped, Turns};
-
 // Serves one connection under those rules, piece by piece.
 pub fn serve<S: Source, K: Sink>(
     alloc: Global,
     rules: &Arc<Ruleset, Global>,
     input: &mut S,
     output: &mut K,
-) -> End
-    ensures served { IfSome (S.left input.old) (λ bytes. Ends result (arc_value rules.now) 16380 bytes (K.held output.old) (K.held output.new)) }
-    ensures read_fault { result ≡ End.ReadFault → Rose (S.faults input.old) (S.faults input.new) }
-    ensures write_fault { result ≡ End.WriteFault → Rose (K.faults output.old) (K.faults output.new) }
+) -> ConnEnd
+    ensures served { Serves result (arc_value rules.now)
+        (S.left input.old) (S.left input.new) (K.held output.old) (K.held output.new) }
+    ensures read_fault { result ≡ ConnEnd.ReadFault → Rose (S.faults input.old) (S.faults input.new) }
+    ensures write_fault { result ≡ ConnEnd.WriteFault → Rose (K.faults output.old) (K.faults output.new) }
 {
-    let Ok(mut talk) = Conn::new(alloc, OWN_SIZE) else {
-        return End::NoMemory;
+    let Ok(mut conn) = Conn::new(alloc, OWN_SIZE) else {
+        return ConnEnd::NoMemory;
     };
-    let end = serve_pieces(alloc, rules, &mut talk, input, output);
-    let _ = talk.let_go();
+    let end = serve_pieces(alloc, rules, &mut conn, input, output);
+    let _ = conn.let_go();
     end
 }
 
@@ -65,33 +73,34 @@ pub fn serve<S: Source, K: Sink>(
 fn serve_pieces<S: Source, K: Sink>(
     alloc: Global,
     rules: &Arc<Ruleset, Global>,
-    talk: &mut Talk,
+    conn: &mut OnceConn,
     input: &mut S,
     output: &mut K,
-) -> End
-    requires stands { Stands talk.old (opening 16380) }
-    requires listens { listens talk.old ≡ true }
-    ensures served { IfSome (S.left input.old) (λ bytes. Ends result (arc_value rules.now) 16380 bytes (K.held output.old) (K.held output.new)) }
-    ensures read_fault { result ≡ End.ReadFault → Rose (S.faults input.old) (S.faults input.new) }
-    ensures write_fault { result ≡ End.WriteFault → Rose (K.faults output.old) (K.faults output.new) }
+) -> ConnEnd
+    requires stands { Stands conn.old (opening OWN_SIZE) }
+    requires listens { listens conn.old ≡ true }
+    ensures served { Serves result (arc_value rules.now)
+        (S.left input.old) (S.left input.new) (K.held output.old) (K.held output.new) }
+    ensures read_fault { result ≡ ConnEnd.ReadFault → Rose (S.faults input.old) (S.faults input.new) }
+    ensures write_fault { result ≡ ConnEnd.WriteFault → Rose (K.faults output.old) (K.faults output.new) }
 {
-    let mut buffer = [0u8; 4096];
+    let mut buffer = [0u8; PIECE_SIZE];
     let mut taken = 0u64;
     while taken < MOST_BYTES {
-        let room = (MOST_BYTES - taken).min(4096) as usize;
+        let room = (MOST_BYTES - taken).min(PIECE_SIZE as u64) as usize;
         match read_piece(input, room, &mut buffer) {
-            Got::Failed => return End::ReadFault,
-            Got::End => return hear_end(alloc, rules, talk, output),
+            Got::Failed => return ConnEnd::ReadFault,
+            Got::End => return hear_end(alloc, rules, conn, output),
             Got::Bytes(count) => {
                 taken += count;
                 let piece = buffer.split_at(count as usize).0;
-                if let Some(end) = hear(alloc, rules, piece, talk, output) {
+                if let Some(end) = hear(alloc, rules, piece, conn, output) {
                     return end;
                 }
             }
         }
     }
-    End::Spent
+    ConnEnd::Spent
 }
 
 // Reads at most so many bytes to the front of the buffer.
@@ -112,20 +121,20 @@ fn hear<K: Sink>(
     alloc: Global,
     rules: &Arc<Ruleset, Global>,
     piece: &[u8],
-    talk: &mut Talk,
+    conn: &mut OnceConn,
     output: &mut K,
-) -> Option<End>
-    requires { (old : Option (List ℕ)) × (s : Point) × Runs (arc_value rules.now) talk.old s old (K.held output.old) }
-    ensures heard { Hears (arc_value rules.now) piece.now result talk.old talk.new (K.held output.old) (K.held output.new) }
+) -> Option<ConnEnd>
+    requires { IsServing (arc_value rules.now) conn.old (K.held output.old) }
+    ensures heard { Hears (arc_value rules.now) piece.now result conn.old conn.new (K.held output.old) (K.held output.new) }
     ensures later { K.faults output.old ≤ K.faults output.new }
-    ensures no_read { result ≢ Some End.ReadFault }
-    ensures cause { result ≡ Some End.WriteFault → Rose (K.faults output.old) (K.faults output.new) }
+    ensures no_read { result ≢ Some ConnEnd.ReadFault }
+    ensures cause { result ≡ Some ConnEnd.WriteFault → Rose (K.faults output.old) (K.faults output.new) }
 {
-    talk.feed(piece);
-    match advance(alloc, rules, talk, output) {
-        Turn::Waits => None,
-        Turn::Closes(how) => Some(End::Closed(how)),
-        Turn::Fails => Some(End::WriteFault),
+    conn.feed(piece);
+    match advance(alloc, rules, conn, output) {
+        Progress::Waits => None,
+        Progress::Closes(how) => Some(ConnEnd::Closed(how)),
+        Progress::Fails => Some(ConnEnd::WriteFault),
     }
 }
 
@@ -133,20 +142,20 @@ fn hear<K: Sink>(
 fn hear_end<K: Sink>(
     alloc: Global,
     rules: &Arc<Ruleset, Global>,
-    talk: &mut Talk,
+    conn: &mut OnceConn,
     output: &mut K,
-) -> End
-    requires runs { (old : Option (List ℕ)) × (s : Point) × Runs (arc_value rules.now) talk.old s old (K.held output.old) }
-    requires listens { listens talk.old ≡ true }
-    ensures ended { EndsHere (arc_value rules.now) result talk.old talk.new (K.held output.old) (K.held output.new) }
-    ensures no_read { result ≢ End.ReadFault }
-    ensures cause { result ≡ End.WriteFault → Rose (K.faults output.old) (K.faults output.new) }
+) -> ConnEnd
+    requires runs { IsServing (arc_value rules.now) conn.old (K.held output.old) }
+    requires listens { listens conn.old ≡ true }
+    ensures ended { EndsHere (arc_value rules.now) result conn.old conn.new (K.held output.old) (K.held output.new) }
+    ensures no_read { result ≢ ConnEnd.ReadFault }
+    ensures cause { result ≡ ConnEnd.WriteFault → Rose (K.faults output.old) (K.faults output.new) }
 {
-    talk.end();
-    match advance(alloc, rules, talk, output) {
-        Turn::Waits => unreachable!(),
-        Turn::Closes(how) => End::Closed(how),
-        Turn::Fails => End::WriteFault,
+    conn.end();
+    match advance(alloc, rules, conn, output) {
+        Progress::Waits => unreachable!(),
+        Progress::Closes(how) => ConnEnd::Closed(how),
+        Progress::Fails => ConnEnd::WriteFault,
     }
 }
 
@@ -154,17 +163,17 @@ fn hear_end<K: Sink>(
 fn advance<K: Sink>(
     alloc: Global,
     rules: &Arc<Ruleset, Global>,
-    talk: &mut Talk,
+    conn: &mut OnceConn,
     output: &mut K,
-) -> Turn
-    requires { (old : Option (List ℕ)) × (s : Point) × Runs (arc_value rules.now) talk.old s old (K.held output.old) }
-    ensures turns { Turns (arc_value rules.now) result talk.old talk.new (K.held output.old) (K.held output.new) }
+) -> Progress
+    requires { IsServing (arc_value rules.now) conn.old (K.held output.old) }
+    ensures progresses { Progresses (arc_value rules.now) result conn.old conn.new (K.held output.old) (K.held output.new) }
     ensures later { K.faults output.old ≤ K.faults output.new }
-    ensures cause { result ≡ Turn.Fails → Rose (K.faults output.old) (K.faults output.new) }
+    ensures cause { result ≡ Progress.Fails → Rose (K.faults output.old) (K.faults output.new) }
 {
     loop {
-        if let Some(turn) = step(alloc, rules, talk, output) {
-            return turn;
+        if let Some(progress) = step(alloc, rules, conn, output) {
+            return progress;
         }
     }
 }
@@ -173,79 +182,79 @@ fn advance<K: Sink>(
 fn step<K: Sink>(
     alloc: Global,
     rules: &Arc<Ruleset, Global>,
-    talk: &mut Talk,
+    conn: &mut OnceConn,
     output: &mut K,
-) -> Option<Turn>
-    requires { (old : Option (List ℕ)) × (s : Point) × Runs (arc_value rules.now) talk.old s old (K.held output.old) }
-    ensures stepped { Stepped (arc_value rules.now) result talk.old talk.new (K.held output.old) (K.held output.new) }
-    ensures fewer { result ≡ None → calls_left talk.new < calls_left talk.old }
+) -> Option<Progress>
+    requires { IsServing (arc_value rules.now) conn.old (K.held output.old) }
+    ensures stepped { Stepped (arc_value rules.now) result conn.old conn.new (K.held output.old) (K.held output.new) }
+    ensures fewer { result ≡ None → calls_left conn.new < calls_left conn.old }
     ensures later { K.faults output.old ≤ K.faults output.new }
-    ensures cause { result ≡ Some Turn.Fails → Rose (K.faults output.old) (K.faults output.new) }
+    ensures cause { result ≡ Some Progress.Fails → Rose (K.faults output.old) (K.faults output.new) }
 {
-    match talk.need() {
-        Need::Bytes => Some(Turn::Waits),
-        Need::Close => Some(closed(talk)),
-        Need::Write => write(talk, output),
+    match conn.need() {
+        Need::Bytes => Some(Progress::Waits),
+        Need::Close => Some(closed(conn)),
+        Need::Write => write(conn, output),
         Need::Look => {
-            look(talk);
+            look(conn);
             None
         }
         Need::Enter => {
-            enter(talk);
+            enter(conn);
             None
         }
         Need::Begin => {
-            begin(alloc, rules, talk);
+            begin(alloc, rules, conn);
             None
         }
         Need::Park => {
-            park(talk);
+            park(conn);
             None
         }
         Need::Leave => {
-            leave(talk);
+            leave(conn);
             None
         }
         Need::Retire => {
-            retire(alloc, talk);
+            retire(alloc, conn);
             None
         }
         Need::Resume => {
-            resume(talk);
+            resume(conn);
             None
         }
         Need::Finish => {
-            finish(talk);
+            finish(conn);
             None
         }
     }
 }
 
 // Writes what is to be written.
-fn write<K: Sink>(talk: &mut Talk, output: &mut K) -> Option<Turn>
-    requires { At Need.Write talk.old.broken talk.old.stage }
-    ensures stepped { (rules : _) → Stepped rules result talk.old talk.new (K.held output.old) (K.held output.new) }
-    ensures fewer { result ≡ None → calls_left talk.new < calls_left talk.old }
+fn write<K: Sink>(conn: &mut OnceConn, output: &mut K) -> Option<Progress>
+    requires { At Need.Write conn.old.broken conn.old.stage }
+    ensures stepped { (rules : _) → Stepped rules result conn.old conn.new (K.held output.old) (K.held output.new) }
+    ensures fewer { result ≡ None → calls_left conn.new < calls_left conn.old }
     ensures later { K.faults output.old ≤ K.faults output.new }
-    ensures cause { result ≡ Some Turn.Fails → Rose (K.faults output.old) (K.faults output.new) }
+    ensures cause { result ≡ Some Progress.Fails → Rose (K.faults output.old) (K.faults output.new) }
 {
-    match write_whole(output, talk.out()) {
-        Wrote::Failed => Some(Turn::Fails),
+    match write_whole(output, conn.out()) {
+        Wrote::Failed => Some(Progress::Fails),
         Wrote::All => {
-            talk.written();
+            conn.written();
             None
         }
     }
 }
 
 // How it closed.
-fn closed(talk: &Talk) -> Turn
-    requires { At Need.Close talk.now.broken talk.now.stage }
-    ensures turns { (rules : _) (held : Option (List ℕ)) → Turns rules result talk.now talk.now held held }
-    ensures closes { result ≢ Turn.Fails }
+fn closed(conn: &OnceConn) -> Progress
+    requires { At Need.Close conn.now.broken conn.now.stage }
+    ensures progresses { (rules : _) (held : Option (List ℕ)) → Progresses rules result conn.now conn.now held held }
+    ensures closes { result ≢ Progress.Fails }
 {
-    match talk.closing() {
-        Some(how) => Turn::Closes(how),
+    match conn.closing() {
+        Some(how) => Progress::Closes(how),
         None => unreachable!(),
     }
 }

@@ -1,6 +1,7 @@
 ghost use Rattle.std.specs.Prelude.{◌≡◌, ◌<◌, IfOk};
 ghost use Rattle.std.specs.Arc.{arc_value};
 ghost use Rattle.tx_core.specs.Halves.{BeginsAs, RetiresAs};
+ghost use Rattle.agent_main.specs.declared.verdicts.TheConstants.{GENERATION};
 
 use sec_ast::LogLine;
 use sec_compile::Ruleset;
@@ -21,7 +22,7 @@ pub fn begun(
     rules: &Arc<Ruleset, Global>,
     request: Request,
 ) -> Result<Begun, NoMemory>
-    ensures { IfOk result (λ begun. BeginsAs (arc_value rules.now) 1 request begun) }
+    ensures { IfOk result (λ begun. BeginsAs (arc_value rules.now) GENERATION request begun) }
 {
     begun_in::<Brand>(alloc, rules, request, Blank::new(1))
 }
@@ -35,7 +36,7 @@ fn begun_in<L: Ledger>(
     requires name { blank.name ≡ L.name }
     requires parts { blank.parts ≡ L.parts }
     requires some { 0 < L.parts }
-    ensures { IfOk result (λ begun. BeginsAs (arc_value rules.now) 1 request begun) }
+    ensures { IfOk result (λ begun. BeginsAs (arc_value rules.now) GENERATION request begun) }
 {
     let mut steps = Steps::<L>::start(blank);
     begin(alloc, rules.clone()?, GENERATION, request, &mut steps)

@@ -7,9 +7,9 @@ pub unreachable-requires : goal.unreachable-requires
 unreachable-requires g c =
     let r = c.requires.runs in
     let s = r.1 in
-    let x = c.in-Waits.ensures.turns r.0 (shut c.args.talk.now s) (runs_shut (arc_value c.args.rules.now) _ _ s r.0 _ c.end.ensures.deaf r.2 (c.end.ensures.next s r.2.stands)) in
-    never_waits c.args.talk.now s x.0 c.requires.listens x.2 x.3
+    let x = c.in-Waits.ensures.progresses r.0 (shut c.args.conn.now s) (runs_shut (arc_value c.args.rules.now) _ _ s r.0 _ c.end.ensures.deaf r.2 (c.end.ensures.next s r.2.stands)) in
+    never_waits c.args.conn.now s x.0 c.requires.listens x.2 x.3
 
 pub returns-in-Closes-clause-ended : goal.returns-in-Closes-clause-ended
 returns-in-Closes-clause-ended g c = λ old s r.
-    c.in-Closes.ensures.turns old (shut c.args.talk.now s) (runs_shut (arc_value c.args.rules.now) _ _ s old _ c.end.ensures.deaf r (c.end.ensures.next s r.stands))
+    c.in-Closes.ensures.progresses old (shut c.args.conn.now s) (runs_shut (arc_value c.args.rules.now) _ _ s old _ c.end.ensures.deaf r (c.end.ensures.next s r.stands))

@@ -8,7 +8,7 @@ invariant-loop-taken g l =
     let source = g.S.Source in
     let sink = g.K.Sink in
     record {
-      serving : Serving (arc_value l.rules) (source.left l.fn.input) (source.left l.input) l.taken l.talk (sink.held l.fn.output) (sink.held l.output);
+      serving : Serving (arc_value l.rules) (source.left l.fn.input) (source.left l.input) l.taken l.conn (sink.held l.fn.output) (sink.held l.output);
       few : l.taken ≤ 4611686018427387904;
       reads : source.faults l.fn.input ≤ source.faults l.input;
       writes : sink.faults l.fn.output ≤ sink.faults l.output;

@@ -13,5 +13,5 @@ returns-in-Failed-clause-stepped g c = λ rules old s r.
 
 pub returns-in-All-clause-stepped : goal.returns-in-All-clause-stepped
 returns-in-All-clause-stepped g c = λ rules old s r.
-    unanswered rules _ _ s (Write (out_of c.args.talk.now.stage)) old _ _ refl c.written.ensures.stays
+    unanswered rules _ _ s (Write (out_of c.args.conn.now.stage)) old _ _ refl c.written.ensures.stays
     (subst (λ (l : List ℕ). Adds (g.K.Sink.held c.args.output.now) l (g.K.Sink.held c.write_whole.new.sink)) c.out.ensures (c.write_whole.ensures.all c.in-All.is)) r (c.written.ensures.next s r.stands)
