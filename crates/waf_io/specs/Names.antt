@@ -18,4 +18,4 @@ unopened kinds.NotADirectory = answers.Absent
 unopened kinds.InvalidFilename = answers.Absent
 unopened kinds.InvalidInput = answers.Absent
 unopened kinds.OutOfMemory = answers.NoMemory
-unopened other = answers.Failed
+unopened rest = answers.Failed
