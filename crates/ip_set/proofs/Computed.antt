@@ -1,6 +1,6 @@
 -- The tests that compute agree with the facts.
-use Rattle.std.proofs.Common.{◌≡◌, ℕ, zero, suc, ◌+◌, ◌<◌, ◌≤◌, inl, inr, Bool, true, false, cond, List, [], ◌∷◌, ◌++◌, length, get_or, take, drop, refl, sym, ap, subst, ◌∙◌, arith, append-nil, length-append, ne_eqb, lit≤, Option, Some, None}
-use Rattle.std.specs.Prelude.{◌↔◌, ◌^◌, IsTrue, MatchOption, decimal, bytes_eq, nat_le}
+use Rattle.std.proofs.Common.{◌≡◌, ℕ, zero, suc, ◌+◌, ◌<◌, ◌≤◌, inl, inr, Bool, true, false, cond, List, [], ◌∷◌, ◌++◌, length, get_or, refl, sym, ap, subst, ◌∙◌, arith, append-nil, ne_eqb, lit≤, Option, Some, None}
+use Rattle.std.specs.Prelude.{◌↔◌, IsTrue, MatchOption, decimal, bytes_eq, nat_le}
 use Rattle.std.specs.Bool.{◌==◌}
 use Rattle.std.specs.List.{find, list_all, list_any, range_with_len}
 use Rattle.std.proofs.lemmas.Fmt.{decimal_injective}
@@ -8,9 +8,7 @@ use Rattle.std.proofs.lemmas.Bool.{and_parts, cases_Bool}
 use Rattle.std.proofs.lemmas.Bool.Decides.{nat_tests}
 use Rattle.std.proofs.lemmas.List.Folds.{Any-from_list_any, list_any-from_Any, list_any_at}
 use Rattle.std.proofs.lemmas.List.FromFn.{get_or-range_with_len, length-range_with_len}
-use Rattle.std.proofs.lemmas.List.{take-append-drop}
 use Rattle.std.proofs.lemmas.Slice.Eq.{bytes_eq-Decides}
-use Rattle.std.proofs.Math.Seq.{take-append_seam, drop-append_seam}
 use Rattle.std.specs.Net.Grammar.{IsIpText, IsColonHex, IsDotted}
 use Rattle.std.specs.Net.Addr.{ipv4_octets, ipv6_segments}
 use Rattle.std.specs.Net.Reader.{Read, read_ipv4, read_ipv6, whole_value}
@@ -131,8 +129,8 @@ bits_test n few =
     (any_range (λ m. bytes_eq (decimal n) (decimal m)) 129 n few ((bytes_eq-Decides (decimal n) (decimal n)).1 refl))
     refl
     (λ m is small.
-        let low : m ≤ 128 = le_fact m 128 small in
-        decimal_injective m n (omega (arith, low)) (omega (arith, few)) (sym ((bytes_eq-Decides (decimal n) (decimal m)).0 is)))
+    let low : m ≤ 128 = le_fact m 128 small in
+    decimal_injective m n (omega (arith, low)) (omega (arith, few)) (sym ((bytes_eq-Decides (decimal n) (decimal m)).0 is)))
 
 pair_is : (x y : List ℕ × List ℕ) → Some x ≡ Some y → (x.0 ≡ y.0) × (x.1 ≡ y.1)
 pair_is x y e = let pair : x ≡ y = cc in (ap (λ (p : List ℕ × List ℕ). p.0) pair, ap (λ (p : List ℕ × List ℕ). p.1) pair)

@@ -15,7 +15,7 @@ abbrev pub IsWord : List ℕ → block.Block → Type 0
 IsWord word b = (IsIpText word b.address × (b.bits ≡ width b.address))
     ⊎ (((ip : IpAddr) → ¬ IsIpText word ip)
     × (address : List ℕ) × (word ≡ address ++ 47 ∷ decimal b.bits) × IsIpText address b.address
-        × (b.bits ≤ width b.address))
+    × (b.bits ≤ width b.address))
 
 -- the first bits of both, as many as n of w, agree
 abbrev pub AgreesIn : ℕ → ℕ → ℕ → ℕ → Type 0

@@ -1,5 +1,5 @@
 -- Where a reading opens files, step by step.
-use Rattle.std.proofs.Common.{◌≡◌, ℕ, zero, suc, ◌-◌, ◌<◌, false, inl, inr, List, ◌∷◌, Option, Some, None, Result, Ok, Err, refl, sym, ap, subst, arith}
+use Rattle.std.proofs.Common.{◌≡◌, ℕ, zero, suc, ◌-◌, ◌<◌, false, inl, inr, List, Option, Some, None, Result, Ok, Err, sym, subst, arith}
 use Rattle.std.specs.Prelude.{IfErr, IfSome}
 use Rattle.sec_text.specs.declared.line.Line.{Line}
 use Rattle.sec_read.specs.declared.faults.Halt.{Halt}

@@ -57,8 +57,8 @@ FollowsTo includes file line (Some word) reading spot = includes file line word 
 abbrev pub LineOpens : Named → (List ℕ → ℕ → List ℕ → Reading → Spot → Type 0) → List ℕ → Line → Reading → Spot → Type 0
 LineOpens files includes file line reading spot =
     After (words_at file line.number (words line.text)) (λ given.
-      IsSpot file line.number (named_file given) spot
-      ⊎ After (directive files file line.number given reading) (λ next. FollowsTo includes file line.number next.0 next.1 spot))
+    IsSpot file line.number (named_file given) spot
+    ⊎ After (directive files file line.number given reading) (λ next. FollowsTo includes file line.number next.0 next.1 spot))
 
 -- the lines of a file: one of them, once those before it are read without a fault
 abbrev pub LinesOpen : Named → Opener → (List ℕ → ℕ → List ℕ → Reading → Spot → Type 0) → List ℕ → List Line → Reading → Spot → Type 0
@@ -74,14 +74,14 @@ IncludeOpens files (suc depth) file line word reading spot =
     (has_wildcard word ≡ false)
     × (IsSpot file line (Some word) spot
     ⊎ After (opened_text file line word (beside file word) (files (beside file word)) reading) (λ found.
-      LinesOpen files (opened files depth) (IncludeOpens files depth) (beside file word) found.0 found.1 spot))
+    LinesOpen files (opened files depth) (IncludeOpens files depth) (beside file word) found.0 found.1 spot))
 
 -- a file that was handed in is in no line and has no word
 abbrev pub HandedInOpens : Named → List ℕ → Reading → Spot → Type 0
 HandedInOpens files name reading spot =
     IsSpot name 0 (Some []) spot
     ⊎ After (opened_text name 0 [] name (files name) reading) (λ found.
-      LinesOpen files (opened files DEPTH_LIMIT) (IncludeOpens files DEPTH_LIMIT) name found.0 found.1 spot)
+    LinesOpen files (opened files DEPTH_LIMIT) (IncludeOpens files DEPTH_LIMIT) name found.0 found.1 spot)
 
 abbrev pub AllOpen : Named → List (List ℕ) → Reading → Spot → Type 0
 AllOpen files [] reading spot = ⊥

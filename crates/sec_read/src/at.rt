@@ -52,7 +52,7 @@ impl<'a> At<'a> {
     // What was read of a part of this line, its fault with the place.
     pub fn placed<T>(self, alloc: Global, read: Result<T, Refusal>) -> Result<T, Halt>
         ensures { (given : Result T Bad) → Gives (λ x. x) read given
-        → Answers (λ x. x) result (placed self.entry.file.now self.entry.line given) }
+            → Answers (λ x. x) result (placed self.entry.file.now self.entry.line given) }
     {
         match read {
             Ok(value) => Ok(value),
