@@ -21,8 +21,7 @@ impl Answer {
 
     /// Adds a plain word, which has no blank and no quote.
     pub fn plain(&mut self, text: &[u8]) -> Result<(), NoMemory> {
-        self.words
-            .push(Word::Plain(Bytes::copy(self.alloc, text)?))
+        self.words.push(Word::Plain(Bytes::copy(self.alloc, text)?))
     }
 
     /// Adds a word in quotes.
@@ -33,6 +32,12 @@ impl Answer {
 
     /// Adds a number as a plain word.
     pub fn number(&mut self, number: u64) -> Result<(), NoMemory> {
+        let mut buffer = Buffer::new();
+        self.plain(buffer.format(number).as_bytes())
+    }
+
+    /// Adds a number that may be negative.
+    pub fn signed(&mut self, number: i64) -> Result<(), NoMemory> {
         let mut buffer = Buffer::new();
         self.plain(buffer.format(number).as_bytes())
     }

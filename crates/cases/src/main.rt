@@ -7,11 +7,25 @@
 //! or begin with `#` are passed over.
 #![tactic(auto)]
 
+mod acks;
 mod answer;
+mod arguments;
+mod chains;
+mod commands;
+mod connections;
+mod frames;
+mod given;
+mod hello;
 mod kind;
+mod memory;
+mod messages;
 mod operators;
+mod pairs;
 mod run;
 mod transforms;
+mod typed_data;
+mod values;
+mod varints;
 mod word;
 
 use crate::run::run;

@@ -27,12 +27,7 @@ pub fn run<F: Files, K: Sink>(
 }
 
 // Runs the cases of one file and writes what came of them. Whether all is well.
-fn is_passed<F: Files, K: Sink>(
-    alloc: Global,
-    name: &[u8],
-    files: &mut F,
-    output: &mut K,
-) -> bool {
+fn is_passed<F: Files, K: Sink>(alloc: Global, name: &[u8], files: &mut F, output: &mut K) -> bool {
     match report_of(alloc, name, files) {
         Ok(report) => {
             let wrote = write_whole(output, report.text.as_slice());
@@ -171,11 +166,7 @@ fn is_case(line: &[u8]) -> bool {
 }
 
 // The words of a line, those that name a file with its content in their place.
-fn read_line<F: Files>(
-    alloc: Global,
-    line: &[u8],
-    files: &mut F,
-) -> Result<Seq<Word>, LineFault> {
+fn read_line<F: Files>(alloc: Global, line: &[u8], files: &mut F) -> Result<Seq<Word>, LineFault> {
     let mut words = Seq::new(alloc);
     for word in words_of(alloc, line)?.into_vec() {
         words.push(filled(alloc, word, files)?)?;
