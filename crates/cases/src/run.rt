@@ -1,5 +1,7 @@
-use crate::answer::{Answer, print_words};
+use crate::answer::Answer;
 use crate::kind::Kind;
+use crate::lines::{case_count, is_case};
+use crate::report::{At, Report, place_text};
 use crate::word::{LineFault, Word, words_of};
 use itoa::Buffer;
 use std::alloc::Global;
@@ -31,7 +33,7 @@ fn is_passed<F: Files, K: Sink>(alloc: Global, name: &[u8], files: &mut F, outpu
     match report_of(alloc, name, files) {
         Ok(report) => {
             let wrote = write_whole(output, report.text.as_slice());
-            report.differing == 0 && wrote == Wrote::All
+            !report.differs && wrote == Wrote::All
         }
         Err(NoMemory) => {
             let _ = write_whole(output, b"out of memory\n");
@@ -40,129 +42,94 @@ fn is_passed<F: Files, K: Sink>(alloc: Global, name: &[u8], files: &mut F, outpu
     }
 }
 
-// What is told of a file: its text, how many cases it has, and how many lines were told to differ.
-#[derive(Drop)]
-struct Report {
-    text: Bytes,
-    cases: u64,
-    differing: u64,
-}
-
 fn report_of<F: Files>(alloc: Global, name: &[u8], files: &mut F) -> Result<Report, NoMemory> {
-    let mut report = Report {
-        text: Bytes::new(alloc),
-        cases: 0,
-        differing: 0,
-    };
-    match (Kind::of_file(name), files.read_file(alloc, name, MOST)) {
-        (Some(kind), FileAnswer::Content(content)) => {
-            report.run_lines(alloc, name, kind, content.as_slice(), files)?;
-            report.close(name)?;
-        }
-        (None, _) => report.tell(name, b": no kind of cases has this name\n")?,
-        _ => report.tell(name, b": can't be read\n")?,
+    let mut report = Report::new(alloc);
+    match Kind::of_file(name) {
+        None => tell_of_file(alloc, name, b"no kind of cases has this name", &mut report)?,
+        Some(kind) => match files.read_file(alloc, name, MOST) {
+            FileAnswer::NoMemory => return Err(NoMemory),
+            FileAnswer::Content(content) => {
+                run_lines(alloc, name, kind, content.as_slice(), files, &mut report)?;
+                close(name, case_count(content.as_slice()), &mut report)?;
+            }
+            _ => tell_of_file(alloc, name, b"can't be read", &mut report)?,
+        },
     }
     Ok(report)
 }
 
-impl Report {
-    fn tell(&mut self, name: &[u8], words: &[u8]) -> Result<(), NoMemory> {
-        self.differing = self.differing.saturating_add(1);
-        self.text.append(name)?;
-        self.text.append(words)
-    }
+fn tell_of_file(
+    alloc: Global,
+    name: &[u8],
+    what: &[u8],
+    report: &mut Report,
+) -> Result<(), NoMemory> {
+    let mut line = Bytes::copy(alloc, name)?;
+    line.append(b": ")?;
+    line.append(what)?;
+    report.tell(line.as_slice())
+}
 
-    // The last line of a file: how many cases it has.
-    fn close(&mut self, name: &[u8]) -> Result<(), NoMemory> {
-        let mut buffer = Buffer::new();
-        self.text.append(name)?;
-        self.text.append(b": ")?;
-        self.text.append(buffer.format(self.cases).as_bytes())?;
-        self.text.append(b" cases\n")
-    }
+// The last line of a file: how many cases it has.
+fn close(name: &[u8], cases: usize, report: &mut Report) -> Result<(), NoMemory> {
+    let mut buffer = Buffer::new();
+    report.text.append(name)?;
+    report.text.append(b": ")?;
+    report.text.append(buffer.format(cases).as_bytes())?;
+    report.text.append(b" cases\n")
+}
 
-    fn run_lines<F: Files>(
-        &mut self,
-        alloc: Global,
-        name: &[u8],
-        kind: Kind,
-        content: &[u8],
-        files: &mut F,
-    ) -> Result<(), NoMemory> {
-        let mut number = 0u64;
-        for line in content.split(|byte| *byte == b'\n') {
-            number = number.saturating_add(1);
-            if is_case(line) {
-                let at = At { name, number };
-                self.run_line(alloc, at, kind, line, files)?;
-            }
-        }
-        Ok(())
-    }
-
-    fn run_line<F: Files>(
-        &mut self,
-        alloc: Global,
-        at: At<'_>,
-        kind: Kind,
-        line: &[u8],
-        files: &mut F,
-    ) -> Result<(), NoMemory> {
-        self.cases = self.cases.saturating_add(1);
-        match read_line(alloc, line, files) {
-            Err(LineFault::NoMemory) => Err(NoMemory),
-            Err(LineFault::Malformed) => {
-                self.begin_line(at)?;
-                self.text.append(b"malformed line\n")
-            }
-            Ok(words) => self.run_case(alloc, at, kind, words.as_slice()),
+fn run_lines<F: Files>(
+    alloc: Global,
+    name: &[u8],
+    kind: Kind,
+    content: &[u8],
+    files: &mut F,
+    report: &mut Report,
+) -> Result<(), NoMemory> {
+    let mut number = 0u64;
+    for line in content.split(|byte| *byte == b'\n') {
+        number = number.saturating_add(1);
+        if is_case(line) {
+            run_line(alloc, At { name, number }, kind, line, files, report)?;
         }
     }
+    Ok(())
+}
 
-    fn run_case(
-        &mut self,
-        alloc: Global,
-        at: At<'_>,
-        kind: Kind,
-        words: &[Word],
-    ) -> Result<(), NoMemory> {
-        if words.len() < kind.given() {
-            self.begin_line(at)?;
-            return self.text.append(b"too few words\n");
+fn run_line<F: Files>(
+    alloc: Global,
+    at: At<'_>,
+    kind: Kind,
+    line: &[u8],
+    files: &mut F,
+    report: &mut Report,
+) -> Result<(), NoMemory> {
+    match read_line(alloc, line, files) {
+        Err(LineFault::NoMemory) => Err(NoMemory),
+        Ok(words) if words.as_slice().len() >= kind.given() => {
+            run_case(alloc, at, kind, words.as_slice(), report)
         }
-        let (given, wanted) = words.split_at(kind.given());
-        let given = bytes_of(alloc, given)?;
-        let mut answer = Answer::new(alloc);
-        kind.answer(alloc, given.as_slice(), &mut answer)?;
-        if answer.words() == wanted {
-            return Ok(());
+        _ => {
+            let mut text = place_text(alloc, at)?;
+            text.append(b"malformed line")?;
+            report.tell(text.as_slice())
         }
-        self.begin_line(at)?;
-        self.text.append(b"came")?;
-        print_words(answer.words(), &mut self.text)?;
-        self.text.append(b" wanted")?;
-        print_words(wanted, &mut self.text)?;
-        self.text.push(b'\n')
-    }
-
-    // The beginning of a line that tells of a case that differs.
-    fn begin_line(&mut self, at: At<'_>) -> Result<(), NoMemory> {
-        let mut buffer = Buffer::new();
-        self.tell(at.name, b":")?;
-        self.text.append(buffer.format(at.number).as_bytes())?;
-        self.text.append(b": ")
     }
 }
 
-// A line of a case file. Its number is counted from 1.
-#[derive(Clone, Copy)]
-struct At<'a> {
-    name: &'a [u8],
-    number: u64,
-}
-
-fn is_case(line: &[u8]) -> bool {
-    !matches!(line, [] | [b'#', ..])
+fn run_case(
+    alloc: Global,
+    at: At<'_>,
+    kind: Kind,
+    words: &[Word],
+    report: &mut Report,
+) -> Result<(), NoMemory> {
+    let (given, wanted) = words.split_at(kind.given().min(words.len()));
+    let given = bytes_of(alloc, given)?;
+    let mut answer = Answer::new(alloc);
+    kind.answer(alloc, given.as_slice(), &mut answer)?;
+    report.settle(alloc, at, answer.words(), wanted)
 }
 
 // The words of a line, those that name a file with its content in their place.
