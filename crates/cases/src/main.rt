@@ -8,25 +8,43 @@
 #![tactic(auto)]
 
 mod acks;
+mod addresses;
 mod answer;
 mod arguments;
 mod chains;
 mod commands;
+mod configuration;
 mod connections;
+mod directives;
 mod frames;
 mod given;
 mod hello;
 mod kind;
+mod limits;
 mod lines;
 mod memory;
 mod messages;
+mod names;
 mod operators;
 mod pairs;
+mod parts;
+mod parts_actions;
+mod patterns;
 mod report;
+mod rows;
+mod rule_files;
+mod rule_lines;
+mod rules;
+mod rules_halves;
+mod rules_phases;
 mod run;
+mod texts;
+mod transactions;
 mod transforms;
 mod typed_data;
 mod values;
+mod variables;
+mod variables_steps;
 mod varints;
 mod word;
 
@@ -37,7 +55,7 @@ use waf_io::{RealFiles, WriteSink};
 use waf_plain::{Bytes, NoMemory, Seq};
 
 fn main(rt: HostRuntime) -> ExitCode {
-    let Ok(names) = names(&rt) else {
+    let Ok(names) = file_names(&rt) else {
         return ExitCode::from(1);
     };
     let mut files = RealFiles::new(&rt);
@@ -46,7 +64,7 @@ fn main(rt: HostRuntime) -> ExitCode {
 }
 
 // The words after the program's name.
-fn names(rt: &HostRuntime) -> Result<Seq<Bytes>, NoMemory> {
+fn file_names(rt: &HostRuntime) -> Result<Seq<Bytes>, NoMemory> {
     let Ok(args) = env::args(rt) else {
         return Err(NoMemory);
     };
