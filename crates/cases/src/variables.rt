@@ -17,13 +17,34 @@ pub fn answer(alloc: Global, given: &[Bytes], out: &mut Answer) -> Result<(), No
     let [request, response, steps, call, text] = given else {
         return out.plain(b"malformed");
     };
-    let mut vars = Vars::new(alloc, request_of(alloc, request.as_slice())?)?;
-    take_steps(alloc, response.as_slice(), steps.as_slice(), &mut vars)?;
-    let call = call.as_slice();
+    let vars = vars_of(
+        alloc,
+        request.as_slice(),
+        response.as_slice(),
+        steps.as_slice(),
+    )?;
+    told(alloc, &vars, call.as_slice(), text.as_slice(), out)
+}
+
+// The variables of a request behind these steps.
+fn vars_of(alloc: Global, request: &[u8], response: &[u8], steps: &[u8]) -> Result<Vars, NoMemory> {
+    let request = request_of(alloc, request)?;
+    let mut vars = Vars::new(alloc, request)?;
+    take_steps(alloc, response, steps, &mut vars)?;
+    Ok(vars)
+}
+
+fn told(
+    alloc: Global,
+    vars: &Vars,
+    call: &[u8],
+    text: &[u8],
+    out: &mut Answer,
+) -> Result<(), NoMemory> {
     if call == b"select".as_slice() {
-        selected(alloc, &vars, text.as_slice(), out)
+        selected(alloc, vars, text, out)
     } else if call == b"expand".as_slice() {
-        expanded(alloc, &vars, text.as_slice(), out)
+        expanded(alloc, vars, text, out)
     } else {
         out.plain(b"malformed")
     }
