@@ -5,12 +5,12 @@ use crate::texts::parted;
 use sec_read::Fault;
 use std::alloc::Global;
 use std::mem;
-use waf_io::{MemFile, SureFiles};
+use waf_io::{InfallibleFiles, MemFile};
 use waf_plain::{Bytes, NoMemory, Seq};
 
 /// These files in memory.
-pub fn in_memory(files: Seq<MemFile>) -> SureFiles {
-    SureFiles::new(files)
+pub fn in_memory(files: Seq<MemFile>) -> InfallibleFiles {
+    InfallibleFiles::new(files)
 }
 
 /// The files of a word. A line `@@ NAME` begins the file of that name, and what stands before the
