@@ -17,8 +17,6 @@ const ANSWER: &[u8] =
 const GET: &[u8] =
     b"\x00\x00\x00&\x03\x00\x00\x00\x01\x07\x01\x0acoraza-req\x02\x02id\x08\x02a1\x06method\x08\x03GET";
 
-const ACK: &[u8] = b"\x00\x00\x00\x11g\x00\x00\x00\x01\x07\x01\x01\x03\x02\x02id\x08\x02a1";
-
 const FILES: &[(&[u8], &[u8])] = &[
     (b"none", b""),
     (b"both", b"Include none\nInclude none\n"),
@@ -256,42 +254,6 @@ fn calls_that_fail(rt: HostRuntime) -> Result<(), Fail> {
             (trial.status, trial.written),
             "{}",
             trial.what
-        );
-    }
-    Ok(())
-}
-
-// The status where the read of that number fails, and what was written.
-fn without(alloc: Global, read: u64) -> Result<(u8, Bytes), NoMemory> {
-    let mut files = files(alloc, &[])?;
-    let mut input = input(alloc, &[read])?;
-    let mut output = MemSink::new(alloc, 4096, Seq::new(alloc))?;
-    let words = words(alloc, b"once", b"none")?;
-    let status = offline_main(alloc, words, &mut files, &mut input, &mut output);
-    Ok((status, Bytes::copy(alloc, output.bytes())?))
-}
-
-// Each read in turn: what was written is for the bytes before it. The HELLO has 79 bytes, the request 42; the read
-// after them is that of the end.
-#[test]
-fn each_read_fails_in_turn(rt: HostRuntime) -> Result<(), Fail> {
-    let alloc = rt.alloc();
-    let mut both = Bytes::copy(alloc, ANSWER)?;
-    both.append(ACK)?;
-    for read in 0..123u64 {
-        let (status, written) = without(alloc, read)?;
-        let wanted = if read < 79 {
-            b"".as_slice()
-        } else if read < 121 {
-            ANSWER
-        } else {
-            both.as_slice()
-        };
-        let wanted_status = if read < 122 { 4 } else { 0 };
-        assert_eq!(rt;
-            (status, written.as_slice()),
-            (wanted_status, wanted),
-            "read {read}"
         );
     }
     Ok(())

@@ -1,6 +1,6 @@
 //! Tests alone, of what no case as data reaches: sources, sinks and files that fail, one call after the other,
-//! under the commands of the agent; the files of the system; the counter that only contracts see; and generic
-//! calls at types of the lowest crates. Cases as data are run by the crate `cases`.
+//! under the commands of the agent; the files of the system; and generic calls at types of the lowest crates.
+//! Cases as data are run by the crate `cases`.
 #![tactic(auto)]
 
 #[cfg(test)]

@@ -1,12 +1,7 @@
-// Values of the lowest crates under bounds, and the counter of steps.
-ghost use Rattle.std.specs.Prelude.{◌≡◌, ◌<◌};
-
+// Values of the lowest crates under bounds.
 use std::alloc::{AllocError, Global};
-use std::marker::Brand;
-use std::mem::size_of;
-use std::sync::ledger::{Blank, Ledger};
 use std::test::Fail;
-use waf_plain::{Bytes, NoMemory, Seq, Steps};
+use waf_plain::{Bytes, NoMemory, Seq};
 
 // Whether a clone is equal to what it was made of.
 fn clones<T: Clone + PartialEq + Drop>(value: &T) -> Result<bool, AllocError> {
@@ -33,26 +28,6 @@ fn lists_under_bounds(rt: HostRuntime) -> Result<(), Fail> {
     crosses_threads(&words);
     crosses_threads(&bytes);
     Ok(())
-}
-
-// Two steps of a counter of that ledger.
-fn two_steps<L: Ledger>(blank: Blank) -> Steps<L>
-    requires name { blank.name ≡ L.name }
-    requires parts { blank.parts ≡ L.parts }
-    requires some { 0 < L.parts }
-    ensures { result ≡ 2 }
-{
-    let mut steps = Steps::<L>::start(blank);
-    steps.tick();
-    steps.tick();
-    steps
-}
-
-// It counts for contracts, and holds no bytes.
-#[test]
-fn a_counter_is_opened_by_a_brand(rt: HostRuntime) {
-    let _steps = two_steps::<Brand>(Blank::new(1));
-    assert_eq!(rt; size_of::<Steps<Brand>>(), 0);
 }
 
 #[test]
