@@ -5,7 +5,8 @@ use Rattle.toml.specs.Data.{Members, get_member}
 use Rattle.agent_conf.specs.Document.{keys}
 
 abbrev pub top_keys : List (List ℕ)
-top_keys = codes "size" ∷ codes "capacity" ∷ codes "shards" ∷ codes "workers" ∷ codes "listen" ∷ codes "default" ∷ codes "app" ∷ []
+top_keys = codes "size" ∷ codes "capacity" ∷ codes "shards" ∷ codes "workers" ∷ codes "listen" ∷ codes "default"
+    ∷ codes "app" ∷ []
 
 abbrev pub application_keys : List (List ℕ)
 application_keys = codes "name" ∷ codes "rules" ∷ codes "responses" ∷ codes "life" ∷ []

@@ -22,7 +22,8 @@ plain_text value = option_and_then (λ text. cond (list_all is_plain_byte text) 
 
 abbrev pub texts_in : Items → Option (List (List ℕ))
 texts_in no_items = Some []
-texts_in (item value rest) = option_and_then (λ text. option_map (λ texts. text ∷ texts) (texts_in rest)) (text_in 1 4096 value)
+texts_in (item value rest) =
+    option_and_then (λ text. option_map (λ texts. text ∷ texts) (texts_in rest)) (text_in 1 4096 value)
 
 -- what is read, or else what stands where the key is absent
 abbrev pub where_absent : {A : Type 0} → A → (Data → Option A) → Option Data → Option A

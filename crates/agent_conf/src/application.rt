@@ -16,7 +16,8 @@ use waf_plain::{Bytes, Seq};
 
 // The applications that are tables, in their order.
 pub(crate) fn applications(alloc: Global, members: &[Value]) -> Result<Seq<AppConf>, ConfFault>
-    ensures { Gives result (flat_map (bad_keys application_rows) (tables (items_view members.now))) (map application_of (tables (items_view members.now))) }
+    ensures { Gives result (flat_map (bad_keys application_rows) (tables (items_view members.now)))
+        (map application_of (tables (items_view members.now))) }
 {
     let mut apps = Seq::new(alloc);
     for member in members {

@@ -14,7 +14,9 @@ use waf_plain::Bytes;
 
 // No key is unknown, and none is missing.
 pub(crate) fn check_keys(alloc: Global, top: &Table) -> Result<(), ConfFault>
-    ensures { IsFirst result (map (λ key. faults.UnknownKey key) (unknown (table_view top.now)) ++ map (λ key. faults.MissingKey key) (missing (table_view top.now))) }
+    ensures { IsFirst result
+        (map (λ key. faults.UnknownKey key) (unknown (table_view top.now))
+        ++ map (λ key. faults.MissingKey key) (missing (table_view top.now))) }
 {
     if let Some(key) = unknown_key(top) {
         let key = Bytes::copy(alloc, key.as_bytes())?;
@@ -58,7 +60,8 @@ fn is_top_key(key: &str) -> bool
 }
 
 fn unknown_in_applications(members: &[Value]) -> Option<&str>
-    ensures { option_map (λ k. k.now) result ≡ first (flat_map (unknown_keys application_keys) (tables (items_view members.now))) }
+    ensures { option_map (λ k. k.now) result
+        ≡ first (flat_map (unknown_keys application_keys) (tables (items_view members.now))) }
 {
     for member in members {
         if let Some(key) = unknown_in_member(member) {
@@ -69,7 +72,8 @@ fn unknown_in_applications(members: &[Value]) -> Option<&str>
 }
 
 fn unknown_in_member(member: &Value) -> Option<&str>
-    ensures { option_map (λ k. k.now) result ≡ first (flat_map (unknown_keys application_keys) (tables_of (view member.now))) }
+    ensures { option_map (λ k. k.now) result
+        ≡ first (flat_map (unknown_keys application_keys) (tables_of (view member.now))) }
 {
     match member.as_table() {
         Some(app) => unknown_in_application(app),

@@ -87,7 +87,8 @@ hit op argument value = hit_of op.kind (source_of op.text) op.words argument val
 
 -- what a built test finds
 abbrev pub test_hit : tests.Test → List ℕ → List ℕ → Option Groups
-test_hit (Pattern regex) argument value = option_map (texts_in value) (option_map (spans_of (group_count regex)) (find (regex_pattern regex) value 0))
+test_hit (Pattern regex) argument value =
+    option_map (texts_in value) (option_map (spans_of (group_count regex)) (find (regex_pattern regex) value 0))
 test_hit (Phrases phrases) argument value = phrase_hit phrases value
 test_hit (Addresses set) argument value = when (is_member set value)
 test_hit (Ranges ranges) argument value = when (has_other ranges value)

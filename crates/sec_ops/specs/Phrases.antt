@@ -50,4 +50,5 @@ IsFirstEnd n phrases text answer = MatchOption answer
 
 -- the answer is one of both, and behind neither
 abbrev pub IsEarlier : Option (ℕ × ℕ) → ℕ × ℕ → ℕ × ℕ → Type 0
-IsEarlier best found answer = ((answer ≡ found) ⊎ (best ≡ Some answer)) × NotBehind answer found × IfSome best (λ b. NotBehind answer b)
+IsEarlier best found answer = ((answer ≡ found) ⊎ (best ≡ Some answer)) × NotBehind answer found
+    × IfSome best (λ b. NotBehind answer b)

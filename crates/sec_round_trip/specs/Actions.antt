@@ -71,7 +71,8 @@ abbrev pub has_equals : List ℕ → Bool
 has_equals text = list_any (λ b. b == 61) text
 
 abbrev pub IsChange : List ℕ → Change → Type 0
-IsChange name (changes.Put value) = (has_equals name ≡ false) × IsMacro value × (begins_with_sign (macro_text value) ≡ false)
+IsChange name (changes.Put value) = (has_equals name ≡ false) × IsMacro value
+    × (begins_with_sign (macro_text value) ≡ false)
 IsChange name (changes.Add value) = (has_equals name ≡ false) × IsMacro value
 IsChange name (changes.Sub value) = (has_equals name ≡ false) × IsMacro value
 IsChange name changes.Delete = Unit {0}

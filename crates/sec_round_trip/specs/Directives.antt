@@ -30,7 +30,8 @@ settings_of listing =
 
 abbrev pub link_directive : Link → List ℕ → Directive
 link_directive link actions =
-    if link.always then (codes "SecAction", action_word actions ∷ []) else (codes "SecRule", condition_words link actions)
+    if link.always then (codes "SecAction", action_word actions ∷ [])
+    else (codes "SecRule", condition_words link actions)
 
 -- those of some links, the first of which has these pieces before its own
 unfoldable pub directives_behind : List (List ℕ) → List Link → List Directive
@@ -54,4 +55,5 @@ abbrev pub IsSafe : List ℕ → Type 0
 IsSafe word = (has_no_feed word ≡ true) × (ends_with_backslash word ≡ false)
 
 abbrev pub HasSafeWords : Listing → Type 0
-HasSafeWords listing = AllByRecursion (λ (directive : Directive). AllByRecursion IsSafe directive.1) (directives_of listing)
+HasSafeWords listing =
+    AllByRecursion (λ (directive : Directive). AllByRecursion IsSafe directive.1) (directives_of listing)

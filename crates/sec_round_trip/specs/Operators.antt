@@ -47,4 +47,5 @@ begins_with_blank [] = false
 begins_with_blank (b ∷ text) = is_blank b
 
 abbrev pub IsOperator : Op → Type 0
-IsOperator op = IsArgument op.kind op.text op.words × (begins_with_blank (argument_text op.kind op.text op.words) ≡ false)
+IsOperator op = IsArgument op.kind op.text op.words
+    × (begins_with_blank (argument_text op.kind op.text op.words) ≡ false)

@@ -85,7 +85,8 @@ pub record IsPrintable (listing : Listing) : Type 0 where
 abbrev pub placed : List ℕ → ℕ → List Item → List Item
 placed file line [] = []
 placed file line (items.Rule rule ∷ list) =
-    items.Rule (record rule { place = record { file = file; line = line } }) ∷ placed file (line + length rule.links) list
+    items.Rule (record rule { place = record { file = file; line = line } })
+    ∷ placed file (line + length rule.links) list
 placed file line (items.Marker label ∷ list) = items.Marker label ∷ placed file (line + 1) list
 
 -- the settings take the first five lines

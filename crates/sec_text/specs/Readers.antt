@@ -8,12 +8,14 @@ Reader S A E = S → Result (Option (A × S)) E
 -- one after the other it gives these values, and leaves rest
 abbrev pub Takes : {S A E : Type 0} → Reader S A E → S → List A → S → Type 0
 Takes reader whole [] rest = whole ≡ rest
-Takes {S} reader whole (value ∷ values) rest = (mid : S) × (reader whole ≡ Ok (Some (value, mid))) × Takes reader mid values rest
+Takes {S} reader whole (value ∷ values) rest =
+    (mid : S) × (reader whole ≡ Ok (Some (value, mid))) × Takes reader mid values rest
 
 -- it gives these values and comes to the end, or some values and then this fault
 abbrev pub ReadsAll : {S A E : Type 0} → Reader S A E → S → Result (List A) E → Type 0
 ReadsAll {S} reader whole (Ok values) = (rest : S) × Takes reader whole values rest × (reader rest ≡ Ok None)
-ReadsAll {S} {A} reader whole (Err fault) = (values : List A) × (rest : S) × Takes reader whole values rest × (reader rest ≡ Err fault)
+ReadsAll {S} {A} reader whole (Err fault) =
+    (values : List A) × (rest : S) × Takes reader whole values rest × (reader rest ≡ Err fault)
 
 -- ---- the same as a function, for at most n values
 

@@ -27,7 +27,10 @@ abbrev pub plain_end : List ℕ → ℕ
 plain_end bytes = prefix_len (λ b. not (is_blank b)) bytes
 
 abbrev pub plain : List ℕ → Read
-plain bytes = if is_plain (take (plain_end bytes) bytes) then Ok (Some (take (plain_end bytes) bytes, drop (plain_end bytes) bytes)) else Err faults.BadWord
+plain bytes =
+    if is_plain (take (plain_end bytes) bytes)
+    then Ok (Some (take (plain_end bytes) bytes, drop (plain_end bytes) bytes))
+    else Err faults.BadWord
 
 -- the word that begins here
 abbrev pub word_here : List ℕ → Read

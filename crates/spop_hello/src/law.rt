@@ -15,7 +15,8 @@ pub fn frames_again()
         → head_of limit (agent_hello t ++ rest) ≡ Whole (control AGENT_HELLO (hello_payload t)) rest }
     ensures in_hello { (t : Terms) → t.size < 2 ^ 32 → all_of pair_at (hello_payload t) ≡ Some (hello_pairs t) }
     ensures leave { (limit status : ℕ) (rest : List ℕ) → status < 2 ^ 32 → MIN_SIZE ≤ limit
-        → head_of limit (disconnect status ++ rest) ≡ Whole (control AGENT_DISCONNECT (disconnect_payload status)) rest }
+        → head_of limit (disconnect status ++ rest)
+        ≡ Whole (control AGENT_DISCONNECT (disconnect_payload status)) rest }
     ensures in_leave { (status : ℕ) → status < 2 ^ 32
         → all_of pair_at (disconnect_payload status) ≡ Some (disconnect_pairs status) }
 {}

@@ -26,7 +26,8 @@ module _ {A : Type 0} where
   -- zs is xs and ys, each in its order
   abbrev pub Interleaves : List A → List A → List A → Type 0
   Interleaves xs ys [] = (xs ≡ []) × (ys ≡ [])
-  Interleaves xs ys (z ∷ zs) = ((rest : List A) × (xs ≡ z ∷ rest) × Interleaves rest ys zs) ⊎ ((rest : List A) × (ys ≡ z ∷ rest) × Interleaves xs rest zs)
+  Interleaves xs ys (z ∷ zs) = ((rest : List A) × (xs ≡ z ∷ rest) × Interleaves rest ys zs)
+      ⊎ ((rest : List A) × (ys ≡ z ∷ rest) × Interleaves xs rest zs)
 
   -- the longer of two lists
   abbrev pub longer : List A → List A → List A

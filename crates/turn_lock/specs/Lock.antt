@@ -43,7 +43,8 @@ module _ {O C R : Type 0} where
 
   -- a pass of this lock and no other, between two calls
   abbrev pub IsPassOf : TurnLock O C R → Pass O C R → Type 0
-  IsPassOf l p = (p.table_id ≡ l.table.shared.table_id) × (p.me.1 ≡ []) × (p.me.0.stage ≡ Idle) × (0 < share_of p) × (p.me.0.start ≡ Some (opened_with l))
+  IsPassOf l p = (p.table_id ≡ l.table.shared.table_id) × (p.me.1 ≡ []) × (p.me.0.stage ≡ Idle)
+      × (0 < share_of p) × (p.me.0.start ≡ Some (opened_with l))
 
   -- every call that it has seen is its own
   abbrev pub OwnsAll : Pass O C R → Type 0

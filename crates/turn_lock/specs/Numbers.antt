@@ -20,7 +20,9 @@ moved next None = next
 
 -- each reply of the history is the next number at its point
 abbrev pub LegalDraws : {C : Type 0} → ℕ → List (Entry C (Option ℕ)) → Type 0
-LegalDraws {C} s log = Legal (λ (n : ℕ) (c : C). Unit {0}) (λ (n : ℕ) (c : C) (r : Option ℕ). Answers n r) (λ (n : ℕ) (c : C) (r : Option ℕ). moved n r) s log
+LegalDraws {C} s log =
+    Legal (λ (n : ℕ) (c : C). Unit {0}) (λ (n : ℕ) (c : C) (r : Option ℕ). Answers n r)
+    (λ (n : ℕ) (c : C) (r : Option ℕ). moved n r) s log
 
 -- the next number after a history
 abbrev pub next_after : {C : Type 0} → ℕ → List (Entry C (Option ℕ)) → ℕ

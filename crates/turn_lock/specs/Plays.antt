@@ -12,8 +12,10 @@ use Rattle.turn_lock.specs.View.{all_shares, ended, JoinedParts}
 
 module _ {O C R : Type 0} where
   -- the pass has a turn, whose number modulo 2^64 was found
-  abbrev pub Drawn : Step (Option (Held O C R)) → Me (Option (Held O C R)) (View O C R) → ℕ → Me (Option (Held O C R)) (View O C R) → Type 0
-  Drawn st m n m' = (m'.1 ≡ m.1) × ((t : ℕ) × (n ≡ t % 18446744073709551616) × (m'.0 ≡ record m.0 { stage = Waiting t }))
+  abbrev pub Drawn : Step (Option (Held O C R)) → Me (Option (Held O C R)) (View O C R) → ℕ
+      → Me (Option (Held O C R)) (View O C R) → Type 0
+  Drawn st m n m' = (m'.1 ≡ m.1)
+      × ((t : ℕ) × (n ≡ t % 18446744073709551616) × (m'.0 ≡ record m.0 { stage = Waiting t }))
 
 module _ {O C R : Type 0} (may : O → C → Type 0) (allows : O → C → R → Type 0) (after : O → C → R → O) where
   module _ (fits : List (Entry C R) → C → Type 0) where
@@ -30,11 +32,14 @@ module _ {O C R : Type 0} (may : O → C → Type 0) (allows : O → C → R →
         × (length v.own ≤ length log)
 
     -- the turn has come where its number was found, and else nothing changed
-    abbrev pub Looked : Step (Option (Held O C R)) → Me (Option (Held O C R)) (View O C R) → ℕ → Me (Option (Held O C R)) (View O C R) → Type 0
-    Looked st m n m' = (t : ℕ) → m.0.stage ≡ Waiting t → (n ≡ t % 18446744073709551616 → HasCome m.0 m') × (n ≢ t % 18446744073709551616 → m' ≡ m)
+    abbrev pub Looked : Step (Option (Held O C R)) → Me (Option (Held O C R)) (View O C R) → ℕ
+        → Me (Option (Held O C R)) (View O C R) → Type 0
+    Looked st m n m' = (t : ℕ) → m.0.stage ≡ Waiting t
+        → (n ≡ t % 18446744073709551616 → HasCome m.0 m') × (n ≢ t % 18446744073709551616 → m' ≡ m)
 
   -- nothing changed, the last join put parts of one history together, and what was seen is legal. With all shares each call seen is the pass's own
-  abbrev pub Confirmed : Step (Option (Held O C R)) → Me (Option (Held O C R)) (View O C R) → ℕ → Me (Option (Held O C R)) (View O C R) → Type 0
+  abbrev pub Confirmed : Step (Option (Held O C R)) → Me (Option (Held O C R)) (View O C R) → ℕ
+      → Me (Option (Held O C R)) (View O C R) → Type 0
   Confirmed st m n m' = (m' ≡ m) × JoinedParts m.0
       × ((s : O) → m.0.start ≡ Some s → Legal may allows after s m.0.seen)
       × (m.0.share ≡ all_shares → (p : ℕ) → p < length m.0.seen → mark_at m.0.own p ≡ 1)
@@ -60,6 +65,10 @@ module _ {O C R : Type 0} where
   noted_by (x ∷ xs) = noted_with x.1
 
   -- the entry that the slot notes was added and is this pass's own. With all shares each call seen is
-  abbrev pub Ended : Step (Option (Held O C R)) → Me (Option (Held O C R)) (View O C R) → ℕ → Me (Option (Held O C R)) (View O C R) → Type 0
+  abbrev pub Ended : Step (Option (Held O C R)) → Me (Option (Held O C R)) (View O C R) → ℕ
+      → Me (Option (Held O C R)) (View O C R) → Type 0
   Ended st m n m' = (m'.1 ≡ [])
-      × ((e : Entry C R) → noted_by m.1 ≡ Some e → (m'.0 ≡ ended m.0 e) × (m.0.share ≡ all_shares → (p : ℕ) → p < length m.0.seen + 1 → mark_at (with_mark m.0.own (length m.0.seen)) p ≡ 1))
+      × ((e : Entry C R) → noted_by m.1 ≡ Some e
+      → (m'.0 ≡ ended m.0 e)
+      × (m.0.share ≡ all_shares → (p : ℕ) → p < length m.0.seen + 1
+      → mark_at (with_mark m.0.own (length m.0.seen)) p ≡ 1))

@@ -28,7 +28,8 @@ module _ {O C R : Type 0} where
 
   -- no two views have one turn
   abbrev pub TurnsDiffer : ℕ → List (View O C R) → Type 0
-  TurnsDiffer n views = (i j t : ℕ) (v u : View O C R) → i ≢ j → get_elem? views i ≡ maybe.some v → get_elem? views j ≡ maybe.some u → HasTurn n v.stage t → HasTurn n u.stage t → ⊥
+  TurnsDiffer n views = (i j t : ℕ) (v u : View O C R) → i ≢ j → get_elem? views i ≡ maybe.some v
+      → get_elem? views j ≡ maybe.some u → HasTurn n v.stage t → HasTurn n u.stage t → ⊥
 
   -- no pass holds the slot
   abbrev pub NoneServes : List (View O C R) → Type 0
@@ -40,13 +41,15 @@ module _ {O C R : Type 0} where
 
   -- the slot is out with a pass
   abbrev pub IsOut : List (maybe.Option (Option (Held O C R))) → List (View O C R) → Type 0
-  IsOut homes views = (homes ≡ maybe.none ∷ []) × ((j : ℕ) × (v : View O C R) × (get_elem? views j ≡ maybe.some v) × (v.stage ≡ Serving))
+  IsOut homes views = (homes ≡ maybe.none ∷ [])
+      × ((j : ℕ) × (v : View O C R) × (get_elem? views j ≡ maybe.some v) × (v.stage ≡ Serving))
 
   -- where no pass holds the slot, it is at home with what the history leaves
   abbrev pub SlotFits : O → List (maybe.Option (Option (Held O C R))) → List (View O C R) → Type 0
   SlotFits now homes views = (AtHome now homes × NoneServes views) ⊎ IsOut homes views
 
-module _ {O C R : Type 0} (may : O → C → Type 0) (allows : O → C → R → Type 0) (after : O → C → R → O) (kept : O → List (List (Entry C R)) → Type 0) (start : O) where
+module _ {O C R : Type 0} (may : O → C → Type 0) (allows : O → C → R → Type 0) (after : O → C → R → O)
+    (kept : O → List (List (Entry C R)) → Type 0) (start : O) where
   -- there is one legal history, of which each view has a front, and each of its calls is one view's own
   pub record InTurns (s : State (Option (Held O C R)) (View O C R)) : Type 0 where
     pub log : List (Entry C R)

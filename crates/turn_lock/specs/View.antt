@@ -53,7 +53,18 @@ module _ {O C R : Type 0} where
 
   -- of the first pass
   abbrev pub first_view : O → View O C R
-  first_view s = record { start = Some s; seen = []; own = []; share = all_shares; stage = Idle; left_seen = []; right_seen = []; left_own = []; right_own = [] }
+  first_view s =
+      record {
+        start = Some s;
+        seen = [];
+        own = [];
+        share = all_shares;
+        stage = Idle;
+        left_seen = [];
+        right_seen = [];
+        left_own = [];
+        right_own = [];
+      }
 
   -- after a turn that ended with this entry
   abbrev pub ended : View O C R → Entry C R → View O C R
@@ -69,8 +80,30 @@ module _ {O C R : Type 0} where
 
   -- of a pass that took in another
   abbrev pub joined : View O C R → View O C R → View O C R
-  joined v w = record { start = v.start; seen = longer v.seen w.seen; own = merged v.own w.own; share = v.share + w.share; stage = Idle; left_seen = v.seen; right_seen = w.seen; left_own = v.own; right_own = w.own }
+  joined v w =
+      record {
+        start = v.start;
+        seen = longer v.seen w.seen;
+        own = merged v.own w.own;
+        share = v.share + w.share;
+        stage = Idle;
+        left_seen = v.seen;
+        right_seen = w.seen;
+        left_own = v.own;
+        right_own = w.own;
+      }
 
   -- of that other
   abbrev pub spent_view : View O C R
-  spent_view = record { start = None; seen = []; own = []; share = 0; stage = Idle; left_seen = []; right_seen = []; left_own = []; right_own = [] }
+  spent_view =
+      record {
+        start = None;
+        seen = [];
+        own = [];
+        share = 0;
+        stage = Idle;
+        left_seen = [];
+        right_seen = [];
+        left_own = [];
+        right_own = [];
+      }

@@ -42,17 +42,23 @@ pub trait Object {
     ghost kept_first: { (s : Self) → starts s → kept s ([] ∷ []) };
 
     /// A caller makes a call that fits its list.
-    ghost kept_call: { (s : Self) (lists : List (List (Entry Self.Call Self.Reply))) (i : ℕ) (own : List (Entry Self.Call Self.Reply)) (c : Self.Call) (r : Self.Reply)
-        → kept s lists → get_elem? lists i ≡ some own → fits own c → may s c → allows s c r → kept (after s c r) (slice_set lists i (own ++ entry c r ∷ [])) };
+    ghost kept_call: { (s : Self) (lists : List (List (Entry Self.Call Self.Reply))) (i : ℕ)
+        (own : List (Entry Self.Call Self.Reply)) (c : Self.Call) (r : Self.Reply)
+        → kept s lists → get_elem? lists i ≡ some own → fits own c → may s c → allows s c r
+        → kept (after s c r) (slice_set lists i (own ++ entry c r ∷ [])) };
 
     /// A caller comes who has made no call.
-    ghost kept_new: { (s : Self) (lists : List (List (Entry Self.Call Self.Reply))) → kept s lists → kept s (lists ++ [] ∷ []) };
+    ghost kept_new: { (s : Self) (lists : List (List (Entry Self.Call Self.Reply))) → kept s lists
+        → kept s (lists ++ [] ∷ []) };
 
     /// A caller takes over what another made, in some order that keeps that of each.
-    ghost kept_join: { (s : Self) (lists : List (List (Entry Self.Call Self.Reply))) (i j : ℕ) (xs ys zs : List (Entry Self.Call Self.Reply))
-        → kept s lists → get_elem? lists i ≡ some xs → j ≢ i → get_elem? lists j ≡ some ys → Interleaves xs ys zs → kept s (slice_set (slice_set lists i zs) j []) };
+    ghost kept_join: { (s : Self) (lists : List (List (Entry Self.Call Self.Reply))) (i j : ℕ)
+        (xs ys zs : List (Entry Self.Call Self.Reply))
+        → kept s lists → get_elem? lists i ≡ some xs → j ≢ i → get_elem? lists j ≡ some ys
+        → Interleaves xs ys zs → kept s (slice_set (slice_set lists i zs) j []) };
 
     /// A call that fits its caller's list may be made.
-    ghost may_fitting: { (s : Self) (lists : List (List (Entry Self.Call Self.Reply))) (i : ℕ) (own : List (Entry Self.Call Self.Reply)) (c : Self.Call)
+    ghost may_fitting: { (s : Self) (lists : List (List (Entry Self.Call Self.Reply))) (i : ℕ)
+        (own : List (Entry Self.Call Self.Reply)) (c : Self.Call)
         → kept s lists → get_elem? lists i ≡ some own → fits own c → may s c };
 }

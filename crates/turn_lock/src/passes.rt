@@ -13,7 +13,8 @@ impl<O: Object> TurnLock<O> {
         requires lock { IsPassOf self.now pass.old }
         requires share { 1 < share_of pass.old }
         ensures lock { IsPassOf self.now pass.new × IsPassOf self.now result }
-        ensures old { (seen_of pass.new ≡ seen_of pass.old) × (marks_of pass.new ≡ marks_of pass.old) × (share_of pass.new + 1 ≡ share_of pass.old) }
+        ensures old { (seen_of pass.new ≡ seen_of pass.old) × (marks_of pass.new ≡ marks_of pass.old)
+            × (share_of pass.new + 1 ≡ share_of pass.old) }
         ensures new { (seen_of result ≡ seen_of pass.old) × (marks_of result ≡ []) × (share_of result ≡ 1) }
     {
         self.table.shared.split_seat::<SplitShare>(pass)

@@ -18,4 +18,5 @@ abbrev pub fails_next : Failing → Bool
 fails_next s = list_any (λ call. nat_eq call s.calls) s.failing
 
 abbrev pub after_call : Failing → Failing
-after_call s = record { calls = one_more s.calls; failing = s.failing; faults = cond (fails_next s) (one_more s.faults) s.faults }
+after_call s =
+    record { calls = one_more s.calls; failing = s.failing; faults = cond (fails_next s) (one_more s.faults) s.faults }

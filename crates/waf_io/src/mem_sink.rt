@@ -95,7 +95,8 @@ impl MemSink {
     /// A sink that holds nothing, with room for so many bytes, that fails at the calls that the list
     /// names.
     pub fn new(alloc: Global, room: usize, failing: Seq<u64>) -> Result<MemSink, NoMemory>
-        ensures { IfOk result (λ sink. sink ≡ record { kept = record { held = Some []; room = room }; schedule = fails_at failing }) }
+        ensures { IfOk result
+            (λ sink. sink ≡ record { kept = record { held = Some []; room = room }; schedule = fails_at failing }) }
     {
         let sink = InfallibleSink::new(alloc, room)?;
         Ok(MemSink {
@@ -124,7 +125,8 @@ impl Sink for MemSink {
         ensures fails { (result ≡ Took.Failed) ↔ (fails_next self.old.schedule ≡ true) }
         ensures counted { self.new.schedule ≡ after_call self.old.schedule }
         ensures whole { result ≢ Took.Failed → result ≡ Took.Bytes (length piece.now) }
-        ensures kept { self.new.kept ≡ cond (fails_next self.old.schedule) self.old.kept (kept_after piece.now self.old.kept) }
+        ensures kept { self.new.kept
+            ≡ cond (fails_next self.old.schedule) self.old.kept (kept_after piece.now self.old.kept) }
     {
         if self.schedule.fails_next() {
             return Took::Failed;

@@ -37,7 +37,8 @@ pub enum Wrote {
 /// Writes all the bytes, or stops at the first fault.
 pub fn write_whole<K: Sink>(sink: &mut K, bytes: &[u8]) -> Wrote
     ensures all { result ≡ Wrote.All → Adds (K.held sink.old) bytes.now (K.held sink.new) }
-    ensures front { (front : List ℕ) × (rest : List ℕ) × (front ++ rest ≡ bytes.now) × Adds (K.held sink.old) front (K.held sink.new) }
+    ensures front { (front : List ℕ) × (rest : List ℕ) × (front ++ rest ≡ bytes.now)
+        × Adds (K.held sink.old) front (K.held sink.new) }
     ensures later { K.faults sink.old ≤ K.faults sink.new }
     ensures cause { result ≡ Wrote.Failed → Rose (K.faults sink.old) (K.faults sink.new) }
 {

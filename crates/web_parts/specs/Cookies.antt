@@ -13,7 +13,8 @@ is_cookie name = bytes_eq (map to_ascii_lowercase name) (codes "cookie")
 -- no cookie of an empty piece, and else one that its first `=` parts
 abbrev pub rows_of_piece : List ℕ → List NameValue
 rows_of_piece [] = []
-rows_of_piece (b ∷ piece) = record { name = before EQUALS (b ∷ piece); value = unwrap_or (behind EQUALS (b ∷ piece)) [] } ∷ []
+rows_of_piece (b ∷ piece) =
+    record { name = before EQUALS (b ∷ piece); value = unwrap_or (behind EQUALS (b ∷ piece)) [] } ∷ []
 
 -- the cookies of a value, which `;` parts
 abbrev pub cookies_of : List ℕ → List NameValue
