@@ -43,4 +43,5 @@ at_end other = None
 
 abbrev pub css : List ℕ → Piece
 css front =
-    or_else (css_number front) (or_else (joined_line front) (or_else (plain_byte front) (or_else (at_end front) (itself front))))
+    or_else (css_number front) (or_else (joined_line front) (or_else (plain_byte front)
+    (or_else (at_end front) (itself front))))

@@ -19,7 +19,8 @@ numbered base before digits text =
 
 -- `&#x` or `&#X` and hexadecimal digits
 abbrev pub hex_entity : List ℕ → Option Piece
-hex_entity (a ∷ h ∷ x ∷ rest) = cond (a == 38 && h == 35 && (x == 120 || x == 88)) (numbered 16 3 (take_while is_hex rest) rest) None
+hex_entity (a ∷ h ∷ x ∷ rest) =
+    cond (a == 38 && h == 35 && (x == 120 || x == 88)) (numbered 16 3 (take_while is_hex rest) rest) None
 hex_entity other = None
 
 -- `&#` and decimal digits
@@ -48,4 +49,5 @@ name_entity front =
     (named (codes "&nbsp") 160 front))))
 
 abbrev pub entities : List ℕ → Piece
-entities front = or_else (hex_entity front) (or_else (decimal_entity front) (or_else (name_entity front) (itself front)))
+entities front =
+    or_else (hex_entity front) (or_else (decimal_entity front) (or_else (name_entity front) (itself front)))

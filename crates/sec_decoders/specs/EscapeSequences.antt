@@ -25,4 +25,5 @@ escaped_octal (s ∷ a ∷ rest) =
 escaped_octal other = None
 
 abbrev pub escape_sequences : List ℕ → Piece
-escape_sequences front = or_else (escaped_x front) (or_else (escaped_octal front) (or_else (backslash front) (itself front)))
+escape_sequences front =
+    or_else (escaped_x front) (or_else (escaped_octal front) (or_else (backslash front) (itself front)))

@@ -41,4 +41,6 @@ backslash (s ∷ a ∷ rest) = cond (s == 92) (Some (ansi a ∷ [], 2)) None
 backslash other = None
 
 abbrev pub js : List ℕ → Piece
-js front = or_else (backslash_u front) (or_else (backslash_x front) (or_else (backslash_octal front) (or_else (backslash front) (itself front))))
+js front =
+    or_else (backslash_u front) (or_else (backslash_x front) (or_else (backslash_octal front)
+    (or_else (backslash front) (itself front))))

@@ -41,4 +41,5 @@ abbrev pub show_row : Option (ℕ × ℕ) → Option Piece
 show_row row = option_map (λ w. (shown w.0, w.1)) row
 
 abbrev pub unicode : List ℕ → Piece
-unicode front = or_else (show_row (two front)) (or_else (show_row (three front)) (or_else (show_row (four front)) (itself front)))
+unicode front =
+    or_else (show_row (two front)) (or_else (show_row (three front)) (or_else (show_row (four front)) (itself front)))

@@ -144,7 +144,8 @@ fn named(front: &[u8], word: &[u8], byte: u8) -> Option<(u8, usize)>
 
 fn begins(front: &[u8], word: &[u8]) -> bool
     requires { length word.now ≤ length front.now }
-    ensures { result ≡ bytes_eq (map to_ascii_lowercase (take (length word.now) front.now)) (map to_ascii_lowercase word.now) }
+    ensures { result ≡ bytes_eq (map to_ascii_lowercase (take (length word.now) front.now))
+        (map to_ascii_lowercase word.now) }
 {
     front.split_at(word.len()).0.eq_ignore_ascii_case(word)
 }

@@ -12,10 +12,15 @@ ghost use Rattle.sec_decoders.specs.Escaped.{percent_escape, entity_escape, x_es
 /// What holds of every value: bytes that are all escaped are read back, and what has no byte that
 /// leads a sequence of UTF-8 is shown as it is. It does nothing.
 pub fn escapes_are_read()
-    ensures url { (value : List ℕ) → All (λ c. c < 256) value → pieces url_uni 0 (flat_map percent_escape value) ≡ value }
-    ensures entity { (value : List ℕ) → All (λ c. c < 256) value → pieces entities 0 (flat_map entity_escape value) ≡ value }
-    ensures javascript { (value : List ℕ) → All (λ c. c < 256) value → pieces js 0 (flat_map x_escape value) ≡ value }
-    ensures style { (value : List ℕ) → All (λ c. c < 256) value → pieces css 0 (flat_map css_escape value) ≡ value }
-    ensures escape { (value : List ℕ) → All (λ c. c < 256) value → pieces escape_sequences 0 (flat_map x_escape value) ≡ value }
+    ensures url { (value : List ℕ) → All (λ c. c < 256) value
+        → pieces url_uni 0 (flat_map percent_escape value) ≡ value }
+    ensures entity { (value : List ℕ) → All (λ c. c < 256) value
+        → pieces entities 0 (flat_map entity_escape value) ≡ value }
+    ensures javascript { (value : List ℕ) → All (λ c. c < 256) value
+        → pieces js 0 (flat_map x_escape value) ≡ value }
+    ensures style { (value : List ℕ) → All (λ c. c < 256) value
+        → pieces css 0 (flat_map css_escape value) ≡ value }
+    ensures escape { (value : List ℕ) → All (λ c. c < 256) value
+        → pieces escape_sequences 0 (flat_map x_escape value) ≡ value }
     ensures plain { (value : List ℕ) → All (λ c. c < 192) value → pieces unicode 0 value ≡ value }
 {}

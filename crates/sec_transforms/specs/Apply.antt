@@ -14,6 +14,7 @@ use Rattle.sec_decoders.specs.JavaScript.{js}
 use Rattle.sec_decoders.specs.Css.{css}
 use Rattle.sec_decoders.specs.EscapeSequences.{escape_sequences}
 use Rattle.sec_decoders.specs.Unicode.{unicode}
+use Rattle.sec_decoders.specs.declared.pieces.TheConstants.{LIMIT}
 use Rattle.sec_transforms.specs.Alphabets.{is_not_null, null_as_space, plus_as_space, backslash_as_slash}
 use Rattle.sec_transforms.specs.CmdLine.{cmd_line}
 use Rattle.sec_transforms.specs.Comments.{comments, comment_marks}
@@ -54,9 +55,9 @@ whole UrlDecode value = percent_decode (map plus_as_space value)
 whole UrlDecodeUni value = pieces url_uni 0 value
 whole Utf8ToUnicode value = pieces unicode 0 value
 
--- the first 1048576 bytes of it
+-- the first `LIMIT` bytes of it
 abbrev pub transformed : names.Transform → List ℕ → List ℕ
-transformed name value = take 1048576 (whole name value)
+transformed name value = take LIMIT (whole name value)
 
 -- from left to right
 unfoldable pub chained : List names.Transform → List ℕ → List ℕ

@@ -41,4 +41,6 @@ hash_mark [] = None
 
 -- a mark gives nothing, the longest that stands at a place first
 abbrev pub comment_marks : List ℕ → Piece
-comment_marks front = or_else (html_open front) (or_else (html_close front) (or_else (two_marks front) (or_else (hash_mark front) (itself front))))
+comment_marks front =
+    or_else (html_open front) (or_else (html_close front) (or_else (two_marks front)
+    (or_else (hash_mark front) (itself front))))

@@ -1,5 +1,6 @@
 ghost use Rattle.std.specs.Prelude.{◌≡◌, ℕ, map, take, filter, IfOk};
 ghost use Rattle.std.specs.Char.{to_ascii_lowercase, to_ascii_uppercase};
+ghost use Rattle.sec_decoders.specs.declared.pieces.TheConstants.{LIMIT};
 ghost use Rattle.sec_transforms.specs.Alphabets.{is_not_null, null_as_space, plus_as_space, backslash_as_slash};
 
 use crate::limit::cut;
@@ -83,28 +84,28 @@ impl Alphabet for Slashes {
 
 /// `lowercase`.
 pub(crate) fn lowercase(alloc: Global, value: &[u8]) -> Result<Bytes, NoMemory>
-    ensures { IfOk result (λ bytes. bytes ≡ take 1048576 (map to_ascii_lowercase value.now)) }
+    ensures { IfOk result (λ bytes. bytes ≡ take LIMIT (map to_ascii_lowercase value.now)) }
 {
     Ok(cut(mapped(alloc, &Lower, value)?))
 }
 
 /// `uppercase`.
 pub(crate) fn uppercase(alloc: Global, value: &[u8]) -> Result<Bytes, NoMemory>
-    ensures { IfOk result (λ bytes. bytes ≡ take 1048576 (map to_ascii_uppercase value.now)) }
+    ensures { IfOk result (λ bytes. bytes ≡ take LIMIT (map to_ascii_uppercase value.now)) }
 {
     Ok(cut(mapped(alloc, &Upper, value)?))
 }
 
 /// `replaceNulls`.
 pub(crate) fn replace_nulls(alloc: Global, value: &[u8]) -> Result<Bytes, NoMemory>
-    ensures { IfOk result (λ bytes. bytes ≡ take 1048576 (map null_as_space value.now)) }
+    ensures { IfOk result (λ bytes. bytes ≡ take LIMIT (map null_as_space value.now)) }
 {
     Ok(cut(mapped(alloc, &NullsAsSpaces, value)?))
 }
 
 /// `removeNulls`.
 pub(crate) fn remove_nulls(alloc: Global, value: &[u8]) -> Result<Bytes, NoMemory>
-    ensures { IfOk result (λ bytes. bytes ≡ take 1048576 (filter is_not_null value.now)) }
+    ensures { IfOk result (λ bytes. bytes ≡ take LIMIT (filter is_not_null value.now)) }
 {
     let kept = value
         .iter()

@@ -1,5 +1,6 @@
 ghost use Rattle.std.specs.Prelude.{◌≡◌, ◌++◌, [], ◌∷◌, List, ℕ, take, IfOk, OnOk, IfSome, IsTrue, ◌↔◌};
 ghost use Rattle.std.specs.Char.{to_ascii_lowercase};
+ghost use Rattle.sec_decoders.specs.declared.pieces.TheConstants.{LIMIT};
 ghost use Rattle.sec_transforms.specs.CmdLine.{cmd_line, to_come, is_mark, is_blank, closes};
 
 use sec_decoders::LIMIT;
@@ -8,7 +9,7 @@ use waf_plain::{Bytes, NoMemory};
 
 /// `cmdLine`: the ways to write a command that shells read alike.
 pub(crate) fn cmd_line(alloc: Global, value: &[u8]) -> Result<Bytes, NoMemory>
-    ensures { IfOk result (λ bytes. bytes ≡ take 1048576 (cmd_line value.now)) }
+    ensures { IfOk result (λ bytes. bytes ≡ take LIMIT (cmd_line value.now)) }
 {
     let mut line = Line {
         out: Bytes::new(alloc),
@@ -31,7 +32,8 @@ struct Line {
 
 impl Line {
     fn read(&mut self, byte: u8) -> Result<(), NoMemory>
-        ensures { OnOk result ((rest : List ℕ) → self.new.out ++ to_come self.new.space rest ≡ self.old.out ++ to_come self.old.space (byte ∷ rest)) }
+        ensures { OnOk result ((rest : List ℕ) → self.new.out ++ to_come self.new.space rest
+            ≡ self.old.out ++ to_come self.old.space (byte ∷ rest)) }
     {
         if is_mark(byte) {
             return Ok(());

@@ -1,5 +1,6 @@
 ghost use Rattle.std.specs.Prelude.{◌≡◌, ◌≤◌, [], length, take, cond, Some, None, IfOk, IsTrue};
 ghost use Rattle.sec_decoders.specs.Pieces.{pieces};
+ghost use Rattle.sec_decoders.specs.declared.pieces.TheConstants.{LIMIT};
 ghost use Rattle.sec_transforms.specs.Comments.{to_close, comments, comment_marks, html_open, html_close, two_marks, is_pair};
 
 use memchr::memmem;
@@ -9,7 +10,7 @@ use waf_plain::{Bytes, NoMemory};
 
 /// `replaceComments`: each comment of C gives a space, also one that does not close.
 pub(crate) fn replace_comments(alloc: Global, value: &[u8]) -> Result<Bytes, NoMemory>
-    ensures { IfOk result (λ bytes. bytes ≡ take 1048576 (pieces comments 0 value.now)) }
+    ensures { IfOk result (λ bytes. bytes ≡ take LIMIT (pieces comments 0 value.now)) }
 {
     decode(alloc, &Comments, value)
 }
@@ -41,7 +42,7 @@ fn close(text: &[u8]) -> usize
 
 /// `removeCommentsChar`: the marks of comments are dropped, and what they enclose stays.
 pub(crate) fn remove_comment_marks(alloc: Global, value: &[u8]) -> Result<Bytes, NoMemory>
-    ensures { IfOk result (λ bytes. bytes ≡ take 1048576 (pieces comment_marks 0 value.now)) }
+    ensures { IfOk result (λ bytes. bytes ≡ take LIMIT (pieces comment_marks 0 value.now)) }
 {
     decode(alloc, &Marks, value)
 }

@@ -7,6 +7,7 @@ ghost use Rattle.md5.specs.Md5.{md5};
 ghost use Rattle.sha1.specs.Sha1.{sha1};
 ghost use Rattle.percent_encoding.specs.Percent.{percent_decode};
 ghost use Rattle.sec_decoders.specs.Pieces.{pieces};
+ghost use Rattle.sec_decoders.specs.declared.pieces.TheConstants.{LIMIT};
 ghost use Rattle.sec_transforms.specs.Encodings.{bytes_of_hex, letters_of, sextet, is_letter, group, is_line_end};
 ghost use Rattle.sec_transforms.specs.Alphabets.{plus_as_space};
 
@@ -24,7 +25,7 @@ use waf_plain::{Bytes, NoMemory};
 
 /// `base64Encode`: RFC 4648, section 4.
 pub(crate) fn base64_encode(alloc: Global, value: &[u8]) -> Result<Bytes, NoMemory>
-    ensures { IfOk result (λ bytes. bytes ≡ take 1048576 (encode_of standard value.now)) }
+    ensures { IfOk result (λ bytes. bytes ≡ take LIMIT (encode_of standard value.now)) }
 {
     let text = STANDARD.encode(alloc, value)?;
     Ok(cut(Bytes::from_vec(text.into_bytes())))
@@ -33,7 +34,7 @@ pub(crate) fn base64_encode(alloc: Global, value: &[u8]) -> Result<Bytes, NoMemo
 /// `base64Decode`: line ends are dropped, and the text is read up to the first byte that is no
 /// letter of the alphabet.
 pub(crate) fn base64_decode(alloc: Global, value: &[u8]) -> Result<Bytes, NoMemory>
-    ensures { IfOk result (λ bytes. bytes ≡ take 1048576 (pieces group 0 (letters_of value.now))) }
+    ensures { IfOk result (λ bytes. bytes ≡ take LIMIT (pieces group 0 (letters_of value.now))) }
 {
     let letters = letters_of(alloc, value)?;
     decode(alloc, &Groups, letters.as_slice())
@@ -141,7 +142,7 @@ fn is_line_end(byte: u8) -> bool
 
 /// `hexEncode`.
 pub(crate) fn hex_encode(alloc: Global, value: &[u8]) -> Result<Bytes, NoMemory>
-    ensures { IfOk result (λ bytes. bytes ≡ take 1048576 (encode_lower value.now)) }
+    ensures { IfOk result (λ bytes. bytes ≡ take LIMIT (encode_lower value.now)) }
 {
     let text = hex::encode(alloc, value)?;
     Ok(cut(Bytes::from_vec(text.into_bytes())))
@@ -149,7 +150,7 @@ pub(crate) fn hex_encode(alloc: Global, value: &[u8]) -> Result<Bytes, NoMemory>
 
 /// `hexDecode`: a value that is not all pairs of digits stays.
 pub(crate) fn hex_decode(alloc: Global, value: &[u8]) -> Result<Bytes, NoMemory>
-    ensures { IfOk result (λ bytes. bytes ≡ take 1048576 (bytes_of_hex value.now)) }
+    ensures { IfOk result (λ bytes. bytes ≡ take LIMIT (bytes_of_hex value.now)) }
 {
     match hex::decode(alloc, value) {
         Ok(bytes) => Ok(cut(Bytes::from_vec(bytes))),
@@ -160,21 +161,21 @@ pub(crate) fn hex_decode(alloc: Global, value: &[u8]) -> Result<Bytes, NoMemory>
 
 /// `md5`: the digest's bytes (RFC 1321).
 pub(crate) fn md5_digest(alloc: Global, value: &[u8]) -> Result<Bytes, NoMemory>
-    ensures { IfOk result (λ bytes. bytes ≡ take 1048576 (md5 value.now)) }
+    ensures { IfOk result (λ bytes. bytes ≡ take LIMIT (md5 value.now)) }
 {
     Ok(cut(Bytes::copy(alloc, &Md5::digest(value))?))
 }
 
 /// `sha1`: the digest's bytes (RFC 3174).
 pub(crate) fn sha1_digest(alloc: Global, value: &[u8]) -> Result<Bytes, NoMemory>
-    ensures { IfOk result (λ bytes. bytes ≡ take 1048576 (sha1 value.now)) }
+    ensures { IfOk result (λ bytes. bytes ≡ take LIMIT (sha1 value.now)) }
 {
     Ok(cut(Bytes::copy(alloc, &Sha1::digest(value))?))
 }
 
 /// `length`: the number of bytes in decimal digits.
 pub(crate) fn length_text(alloc: Global, value: &[u8]) -> Result<Bytes, NoMemory>
-    ensures { IfOk result (λ bytes. bytes ≡ take 1048576 (decimal (length value.now))) }
+    ensures { IfOk result (λ bytes. bytes ≡ take LIMIT (decimal (length value.now))) }
 {
     let mut buffer = itoa::Buffer::new();
     let digits = Bytes::copy(alloc, buffer.format(value.len()).as_bytes())?;
@@ -183,7 +184,7 @@ pub(crate) fn length_text(alloc: Global, value: &[u8]) -> Result<Bytes, NoMemory
 
 /// `urlDecode`: percent-encoding, and `+` for a space.
 pub(crate) fn url_decode(alloc: Global, value: &[u8]) -> Result<Bytes, NoMemory>
-    ensures { IfOk result (λ bytes. bytes ≡ take 1048576 (percent_decode (map plus_as_space value.now))) }
+    ensures { IfOk result (λ bytes. bytes ≡ take LIMIT (percent_decode (map plus_as_space value.now))) }
 {
     let spaced = mapped(alloc, &PlusAsSpace, value)?;
     let mut out = Vec::new(alloc);

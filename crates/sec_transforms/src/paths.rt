@@ -1,6 +1,7 @@
 ghost use Rattle.std.specs.Prelude.{◌≡◌, ◌==◌, ◌++◌, [], ◌∷◌, List, ℕ, map, take, IfOk, OnOk, OnErr, Bool, cond};
 ghost use Rattle.std.specs.Borrow.{Bor};
 ghost use Rattle.std.specs.List.{slice_split, join_with_byte};
+ghost use Rattle.sec_decoders.specs.declared.pieces.TheConstants.{LIMIT};
 ghost use Rattle.sec_transforms.specs.NormalizePath.{after, ends_in_name, is_rooted, tail_of, path};
 ghost use Rattle.sec_transforms.specs.Alphabets.{backslash_as_slash};
 
@@ -11,7 +12,7 @@ use waf_plain::{Bytes, NoMemory};
 
 /// `normalizePath`.
 pub(crate) fn normalize_path(alloc: Global, value: &[u8]) -> Result<Bytes, NoMemory>
-    ensures { IfOk result (λ bytes. bytes ≡ take 1048576 (path value.now)) }
+    ensures { IfOk result (λ bytes. bytes ≡ take LIMIT (path value.now)) }
 {
     let rooted = starts_at_root(value);
     let pieces = pieces_of(alloc, value)?;
@@ -27,14 +28,15 @@ pub(crate) fn normalize_path(alloc: Global, value: &[u8]) -> Result<Bytes, NoMem
 
 /// `normalizePathWin`: a `\` is a `/`.
 pub(crate) fn normalize_path_win(alloc: Global, value: &[u8]) -> Result<Bytes, NoMemory>
-    ensures { IfOk result (λ bytes. bytes ≡ take 1048576 (path (map backslash_as_slash value.now))) }
+    ensures { IfOk result (λ bytes. bytes ≡ take LIMIT (path (map backslash_as_slash value.now))) }
 {
     let slashed = mapped(alloc, &Slashes, value)?;
     normalize_path(alloc, slashed.as_slice())
 }
 
 fn written(alloc: Global, rooted: bool, left: &[&[u8]], dropped: bool) -> Result<Bytes, NoMemory>
-    ensures { IfOk result (λ bytes. let kept = map (λ p. p.now) left.now in bytes ≡ cond rooted (47 ∷ []) [] ++ (join_with_byte 47 kept ++ tail_of (kept, dropped))) }
+    ensures { IfOk result (λ bytes. let kept = map (λ p. p.now) left.now in
+        bytes ≡ cond rooted (47 ∷ []) [] ++ (join_with_byte 47 kept ++ tail_of (kept, dropped))) }
 {
     let mut out = Bytes::new(alloc);
     out.append(slash_if(rooted))?;
@@ -73,7 +75,9 @@ fn pieces_of(alloc: Global, value: &[u8]) -> Result<Vec<&[u8]>, NoMemory>
 
 /// Whether the piece is dropped. After an `Err` what is left may have changed.
 fn step<'a>(rooted: bool, left: &mut Vec<&'a [u8]>, piece: &'a [u8]) -> Result<bool, NoMemory>
-    ensures { IfOk result (λ dropped. (dropped_before : Bool) → after rooted (map (λ p. p.now) left.old.items, dropped_before) piece.now ≡ (map (λ p. p.now) left.new.items, dropped)) }
+    ensures { IfOk result (λ dropped. (dropped_before : Bool)
+        → after rooted (map (λ p. p.now) left.old.items, dropped_before) piece.now
+        ≡ (map (λ p. p.now) left.new.items, dropped)) }
 {
     match piece {
         [] | [b'.'] => Ok(true),

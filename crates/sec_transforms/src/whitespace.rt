@@ -1,6 +1,7 @@
 ghost use Rattle.std.specs.Prelude.{◌≡◌, ◌≤◌, length, take, filter, not, IfOk};
 ghost use Rattle.std.specs.List.{take_while};
 ghost use Rattle.sec_decoders.specs.Pieces.{pieces};
+ghost use Rattle.sec_decoders.specs.declared.pieces.TheConstants.{LIMIT};
 ghost use Rattle.sec_transforms.specs.Whitespace.{is_white, is_wide, run, trimmed_left, trimmed_right};
 
 use crate::limit::cut;
@@ -10,7 +11,7 @@ use waf_plain::{Bytes, NoMemory};
 
 /// `compressWhitespace`.
 pub(crate) fn compress_whitespace(alloc: Global, value: &[u8]) -> Result<Bytes, NoMemory>
-    ensures { IfOk result (λ bytes. bytes ≡ take 1048576 (pieces run 0 value.now)) }
+    ensures { IfOk result (λ bytes. bytes ≡ take LIMIT (pieces run 0 value.now)) }
 {
     decode(alloc, &Runs, value)
 }
@@ -38,7 +39,7 @@ fn run_len(text: &[u8]) -> usize
 
 /// `removeWhitespace`.
 pub(crate) fn remove_whitespace(alloc: Global, value: &[u8]) -> Result<Bytes, NoMemory>
-    ensures { IfOk result (λ bytes. bytes ≡ take 1048576 (filter (λ c. not (is_wide c)) value.now)) }
+    ensures { IfOk result (λ bytes. bytes ≡ take LIMIT (filter (λ c. not (is_wide c)) value.now)) }
 {
     let kept = value
         .iter()
@@ -50,27 +51,27 @@ pub(crate) fn remove_whitespace(alloc: Global, value: &[u8]) -> Result<Bytes, No
 
 /// `trim`.
 pub(crate) fn trim(alloc: Global, value: &[u8]) -> Result<Bytes, NoMemory>
-    ensures { IfOk result (λ bytes. bytes ≡ take 1048576 (trimmed_right (trimmed_left value.now))) }
+    ensures { IfOk result (λ bytes. bytes ≡ take LIMIT (trimmed_right (trimmed_left value.now))) }
 {
     copy_of(alloc, before_whitespace(behind_whitespace(value)))
 }
 
 /// `trimLeft`.
 pub(crate) fn trim_left(alloc: Global, value: &[u8]) -> Result<Bytes, NoMemory>
-    ensures { IfOk result (λ bytes. bytes ≡ take 1048576 (trimmed_left value.now)) }
+    ensures { IfOk result (λ bytes. bytes ≡ take LIMIT (trimmed_left value.now)) }
 {
     copy_of(alloc, behind_whitespace(value))
 }
 
 /// `trimRight`.
 pub(crate) fn trim_right(alloc: Global, value: &[u8]) -> Result<Bytes, NoMemory>
-    ensures { IfOk result (λ bytes. bytes ≡ take 1048576 (trimmed_right value.now)) }
+    ensures { IfOk result (λ bytes. bytes ≡ take LIMIT (trimmed_right value.now)) }
 {
     copy_of(alloc, before_whitespace(value))
 }
 
 fn copy_of(alloc: Global, value: &[u8]) -> Result<Bytes, NoMemory>
-    ensures { IfOk result (λ bytes. bytes ≡ take 1048576 value.now) }
+    ensures { IfOk result (λ bytes. bytes ≡ take LIMIT value.now) }
 {
     Ok(cut(Bytes::copy(alloc, value)?))
 }
