@@ -1,5 +1,5 @@
 -- Turns of loops that write lists.
-use Rattle.std.proofs.Common.{◌≡◌, ℕ, ◌+◌, ◌<◌, ◌≤◌, List, [], ◌∷◌, ◌++◌, length, get_or, take, drop, refl, sym, ap, ◌∙◌, append-nil, append_assoc, add-one, drop-cons}
+use Rattle.std.proofs.Common.{◌≡◌, ℕ, ◌+◌, ◌<◌, ◌≤◌, List, [], ◌∷◌, ◌++◌, length, get_or, map, take, drop, refl, sym, ap, ◌∙◌, append-nil, append_assoc, add-one, drop-cons}
 use Rattle.std.specs.List.{flat_map, join_with_byte}
 use Rattle.std.proofs.lemmas.List.{drop_all, take_more, flat_map_more}
 
@@ -34,5 +34,23 @@ join_end c out whole xs i past left =
 pub two : {A : Type 0} → (p m n a b : List A) → m ≡ p ++ a → n ≡ m ++ b → n ≡ p ++ (a ++ b)
 two p m n a b first second = rw (second, first) (append_assoc p a b)
 
-pub begun : (c : ℕ) (none out p : List ℕ) (xs whole : List (List ℕ)) → whole ≡ p ∷ xs → none ≡ [] → out ≡ none ++ p → out ++ tails c xs ≡ join_with_byte c whole
-begun c none out p xs whole whole_is none_is is = rw (is, none_is, whole_is) (sym (joined c p xs))
+pub begun : (c : ℕ) (before out p : List ℕ) (xs whole : List (List ℕ)) → whole ≡ p ∷ xs → out ≡ before ++ p → out ++ tails c xs ≡ before ++ join_with_byte c whole
+begun c before out p xs whole whole_is is =
+    rw (is, whole_is, append_assoc) (ap (λ (l : List ℕ). before ++ l) (sym (joined c p xs)))
+
+-- the same over the texts of some elements
+pub map_begun : {X : Type 0} → (f : X → List ℕ) (c : ℕ) (before out : List ℕ) (x : X) (xs whole : List X) → whole ≡ x ∷ xs → out ≡ before ++ f x → out ++ tails c (map f xs) ≡ before ++ join_with_byte c (map f whole)
+map_begun {X = X} f c before out x xs whole whole_is is =
+    begun c before out (f x) (map f xs) (map f whole) (ap (λ (l : List X). map f l) whole_is) is
+
+pub map_turn : {X : Type 0} → (f : X → List ℕ) (c : ℕ) (out new whole : List ℕ) (xs : List X) (i : ℕ) (d : X) → i < length xs → out ++ tails c (map f (drop i xs)) ≡ whole → new ≡ out ++ (c ∷ f (get_or xs i d)) → new ++ tails c (map f (drop (i + 1) xs)) ≡ whole
+unfolding tails
+map_turn {X = X} f c out new whole xs i d below left is =
+    let e : drop i xs ≡ get_or xs i d ∷ drop (i + 1) xs = rw (add-one, drop-cons xs i d) refl in
+    let step : out ++ tails c (map f (get_or xs i d ∷ drop (i + 1) xs)) ≡ whole = ap (λ (l : List X). out ++ tails c (map f l)) (sym e) ∙ left in
+    rw (is, append_assoc) step
+
+pub map_end : {X : Type 0} → (f : X → List ℕ) (c : ℕ) (out whole : List ℕ) (xs : List X) (i : ℕ) → length xs ≤ i → out ++ tails c (map f (drop i xs)) ≡ whole → out ≡ whole
+unfolding tails
+map_end {X = X} f c out whole xs i past left =
+    sym (append-nil out) ∙ ap (λ (l : List X). out ++ tails c (map f l)) (sym (drop_all i xs past)) ∙ left

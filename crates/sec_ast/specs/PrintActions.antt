@@ -91,10 +91,12 @@ rule_pieces rule =
     number_piece (codes "id:") rule.id ∷ number_piece (codes "phase:") rule.phase ∷ disrupt_text rule.disrupt ∷
     if_not_zero (codes "status:") rule.status ++ log_text rule.log ∷
     if_not_empty (codes "msg:") rule.msg ++ if_not_empty (codes "logdata:") rule.logdata
-    ++ map (quoted_piece (codes "tag:")) rule.tags ++ if_not_zero (codes "skip:") rule.skip ++ if_there (codes "skipAfter:") rule.skip_after
+    ++ map (quoted_piece (codes "tag:")) rule.tags ++ if_not_zero (codes "skip:") rule.skip
+    ++ if_there (codes "skipAfter:") rule.skip_after
 
 -- chain where another link follows
 unfoldable pub link_pieces : Link → Bool → List (List ℕ)
 link_pieces link follows =
-    map transform_text link.transforms ++ if_set (codes "capture") link.capture ++ if_set (codes "multiMatch") link.multi
+    map transform_text link.transforms ++ if_set (codes "capture") link.capture
+    ++ if_set (codes "multiMatch") link.multi
     ++ map setvar_text link.setvars ++ map ctl_text link.ctls ++ if_set (codes "chain") follows

@@ -35,4 +35,5 @@ behind_blank (b ∷ argument) = 32 ∷ b ∷ argument
 
 unfoldable pub operator_text : Bool → Op → List ℕ
 operator_text negated op =
-    (if negated then codes "!@" else codes "@") ++ operator_name op.kind ++ behind_blank (argument_text op.kind op.text op.words)
+    (if negated then codes "!@" else codes "@") ++ operator_name op.kind
+    ++ behind_blank (argument_text op.kind op.text op.words)

@@ -1,10 +1,10 @@
-ghost use Rattle.std.specs.Prelude.{◌≡◌, ◌++◌, IfOk, OnErr, OnOk};
+ghost use Rattle.std.specs.Prelude.{◌≡◌, ◌++◌, OnErr, OnOk, decimal};
 ghost use Rattle.sec_ast.specs.Print.{item_text, limit_action, listing_text, setting, settings_text};
 
 use crate::listing::{Item, Listing};
 use crate::print_actions::switch_text;
-use crate::print_rules::rule_text;
-use crate::print_texts::{decimal, line_of};
+use crate::print_rules::put_rule;
+use crate::print_texts::{put_decimal, put_line};
 use std::alloc::Global;
 use waf_plain::{Bytes, NoMemory};
 
@@ -14,66 +14,67 @@ pub fn print_listing(alloc: Global, listing: &Listing, out: &mut Bytes) -> Resul
     ensures ok { OnOk result (out.new ≡ out.old ++ listing_text listing.now) }
     ensures err { OnErr result (out.new ≡ out.old) }
 {
-    let text = listing_text(alloc, listing)?;
+    let mut text = Bytes::new(alloc);
+    put_listing(alloc, listing, &mut text)?;
     out.append(text.as_slice())
 }
 
 #[tactic(auto, unfolding(crate::specs::Print::listing_text))]
-fn listing_text(alloc: Global, listing: &Listing) -> Result<Bytes, NoMemory>
-    ensures { IfOk result (λ bytes. bytes ≡ listing_text listing.now) }
+fn put_listing(alloc: Global, listing: &Listing, out: &mut Bytes) -> Result<(), NoMemory>
+    ensures { OnOk result (out.new ≡ out.old ++ listing_text listing.now) }
 {
-    let mut out = settings_text(alloc, listing)?;
+    put_settings(alloc, listing, out)?;
     for item in listing.items.as_slice() {
-        let text = item_text(alloc, item)?;
-        out.append(text.as_slice())?;
+        put_item(alloc, item, out)?;
     }
-    Ok(out)
+    Ok(())
 }
 
-fn item_text(alloc: Global, item: &Item) -> Result<Bytes, NoMemory>
-    ensures { IfOk result (λ bytes. bytes ≡ item_text item.now) }
+fn put_item(alloc: Global, item: &Item, out: &mut Bytes) -> Result<(), NoMemory>
+    ensures { OnOk result (out.new ≡ out.old ++ item_text item.now) }
 {
     match item {
-        Item::Rule(rule) => rule_text(alloc, rule),
-        Item::Marker(label) => line_of(alloc, b"SecMarker", &[label.as_slice()]),
+        Item::Rule(rule) => put_rule(alloc, rule, out),
+        Item::Marker(label) => put_line(b"SecMarker", &[label.as_slice()], out),
     }
 }
 
 #[tactic(auto, unfolding(crate::specs::Print::settings_text))]
-fn settings_text(alloc: Global, listing: &Listing) -> Result<Bytes, NoMemory>
-    ensures { IfOk result (λ bytes. bytes ≡ settings_text listing.now) }
+fn put_settings(alloc: Global, listing: &Listing, out: &mut Bytes) -> Result<(), NoMemory>
+    ensures { OnOk result (out.new ≡ out.old ++ settings_text listing.now) }
 {
-    let limit = decimal(alloc, listing.request_limit)?;
-    let mut out = Bytes::new(alloc);
-    put_setting(alloc, b"SecRuleEngine", listing.engine.name(), &mut out)?;
+    put_setting(b"SecRuleEngine", listing.engine.name(), out)?;
     put_setting(
-        alloc,
         b"SecRequestBodyAccess",
         switch_text(listing.request_body),
-        &mut out,
+        out,
     )?;
-    put_setting(alloc, b"SecRequestBodyLimit", limit.as_slice(), &mut out)?;
+    put_limit(alloc, b"SecRequestBodyLimit", listing.request_limit, out)?;
     put_setting(
-        alloc,
         b"SecRequestBodyLimitAction",
         limit_action(listing.limit_reject),
-        &mut out,
+        out,
     )?;
     put_setting(
-        alloc,
         b"SecResponseBodyAccess",
         switch_text(listing.response_body),
-        &mut out,
-    )?;
-    Ok(out)
+        out,
+    )
+}
+
+fn put_limit(alloc: Global, name: &[u8], limit: u64, out: &mut Bytes) -> Result<(), NoMemory>
+    ensures { OnOk result (out.new ≡ out.old ++ setting name.now (decimal limit)) }
+{
+    let mut digits = Bytes::new(alloc);
+    put_decimal(limit, &mut digits)?;
+    put_setting(name, digits.as_slice(), out)
 }
 
 #[tactic(auto, unfolding(crate::specs::Print::setting))]
-fn put_setting(alloc: Global, name: &[u8], word: &[u8], out: &mut Bytes) -> Result<(), NoMemory>
+fn put_setting(name: &[u8], word: &[u8], out: &mut Bytes) -> Result<(), NoMemory>
     ensures { OnOk result (out.new ≡ out.old ++ setting name.now word.now) }
 {
-    let line = line_of(alloc, name, &[word])?;
-    out.append(line.as_slice())
+    put_line(name, &[word], out)
 }
 
 fn limit_action(is_rejected: bool) -> &'static [u8]

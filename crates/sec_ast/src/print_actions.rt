@@ -1,34 +1,49 @@
-ghost use Rattle.std.specs.Prelude.{◌≡◌, ◌++◌, IfOk, OnOk, codes, decimal, map};
+ghost use Rattle.std.specs.Prelude.{◌≡◌, ◌++◌, ◌∷◌, [], IfOk, OnOk, codes, map};
 ghost use Rattle.sec_ast.specs.PrintMacros.{macro_text};
 ghost use Rattle.sec_ast.specs.PrintActions.{change_of_setting, change_text, ctl_text, disrupt_text, if_not_empty, if_not_zero, if_set, if_there, link_pieces, log_text, number_piece, quoted_piece, range_text, rule_pieces, setvar_text, switch_text, transform_text};
 
 use crate::action::{Change, Ctl, Disrupt, SetVar};
 use crate::link::Link;
 use crate::macros::Macro;
-use crate::print_macros::macro_text;
-use crate::print_texts::{behind, decimal, in_quotes};
+use crate::print_macros::put_macro;
+use crate::print_texts::{behind, put_decimal, put_in_quotes};
 use crate::rule::Rule;
 use crate::transform::Transform;
 use std::alloc::Global;
 use waf_plain::{Bytes, NoMemory, Seq};
 
 /// The actions that a rule's first link has before its own.
-#[tactic(auto, unfolding(crate::specs::PrintActions::rule_pieces))]
 pub(crate) fn rule_pieces(alloc: Global, rule: &Rule) -> Result<Seq<Bytes>, NoMemory>
     ensures { IfOk result (λ pieces. pieces ≡ rule_pieces rule.now) }
 {
     let mut pieces = Seq::new(alloc);
+    add_rule(alloc, rule, &mut pieces)?;
+    Ok(pieces)
+}
+
+#[tactic(auto, unfolding(crate::specs::PrintActions::rule_pieces))]
+fn add_rule(alloc: Global, rule: &Rule, pieces: &mut Seq<Bytes>) -> Result<(), NoMemory>
+    ensures { OnOk result (pieces.new ≡ pieces.old ++ rule_pieces rule.now) }
+{
+    add_head(alloc, rule, pieces)?;
+    add_macro(alloc, b"msg:", &rule.msg, pieces)?;
+    add_macro(alloc, b"logdata:", &rule.logdata, pieces)?;
+    add_tags(alloc, &rule.tags, pieces)?;
+    add_number(alloc, b"skip:", rule.skip, pieces)?;
+    add_text(alloc, b"skipAfter:", &rule.skip_after, pieces)
+}
+
+fn add_head(alloc: Global, rule: &Rule, pieces: &mut Seq<Bytes>) -> Result<(), NoMemory>
+    ensures { OnOk result (pieces.new ≡ pieces.old ++
+        number_piece (codes "id:") rule.now.id ∷ number_piece (codes "phase:") rule.now.phase ∷
+        disrupt_text rule.now.disrupt ∷ if_not_zero (codes "status:") rule.now.status ++
+        log_text rule.now.log ∷ []) }
+{
     pieces.push(number_piece(alloc, b"id:", u64::from(rule.id))?)?;
     pieces.push(number_piece(alloc, b"phase:", u64::from(rule.phase))?)?;
     pieces.push(disrupt_text(alloc, &rule.disrupt)?)?;
-    add_number(alloc, b"status:", rule.status, &mut pieces)?;
-    pieces.push(Bytes::copy(alloc, log_text(rule.log))?)?;
-    add_macro(alloc, b"msg:", &rule.msg, &mut pieces)?;
-    add_macro(alloc, b"logdata:", &rule.logdata, &mut pieces)?;
-    add_tags(alloc, &rule.tags, &mut pieces)?;
-    add_number(alloc, b"skip:", rule.skip, &mut pieces)?;
-    add_text(alloc, b"skipAfter:", &rule.skip_after, &mut pieces)?;
-    Ok(pieces)
+    add_number(alloc, b"status:", rule.status, pieces)?;
+    pieces.push(Bytes::copy(alloc, log_text(rule.log))?)
 }
 
 /// Adds a link's own actions; `follows`: another link stands behind it.
@@ -52,15 +67,25 @@ pub(crate) fn add_link(
 fn number_piece(alloc: Global, label: &[u8], number: u64) -> Result<Bytes, NoMemory>
     ensures { IfOk result (λ bytes. bytes ≡ number_piece label.now number) }
 {
-    let digits = decimal(alloc, number)?;
-    behind(alloc, label, digits.as_slice())
+    let mut out = Bytes::copy(alloc, label)?;
+    put_decimal(number, &mut out)?;
+    Ok(out)
 }
 
 fn quoted_piece(alloc: Global, label: &[u8], text: &[u8]) -> Result<Bytes, NoMemory>
     ensures { IfOk result (λ bytes. bytes ≡ quoted_piece label.now text.now) }
 {
-    let quoted = in_quotes(alloc, b'\'', text)?;
-    behind(alloc, label, quoted.as_slice())
+    let mut out = Bytes::copy(alloc, label)?;
+    put_in_quotes(b'\'', text, &mut out)?;
+    Ok(out)
+}
+
+fn macro_piece(alloc: Global, label: &[u8], text: &Macro) -> Result<Bytes, NoMemory>
+    ensures { IfOk result (λ bytes. bytes ≡ quoted_piece label.now (macro_text text.now)) }
+{
+    let mut written = Bytes::new(alloc);
+    put_macro(text, &mut written)?;
+    quoted_piece(alloc, label, written.as_slice())
 }
 
 fn add_number(
@@ -88,8 +113,7 @@ fn add_macro(
     if text.is_empty() {
         return Ok(());
     }
-    let written = macro_text(alloc, text)?;
-    pieces.push(quoted_piece(alloc, label, written.as_slice())?)
+    pieces.push(macro_piece(alloc, label, text)?)
 }
 
 fn add_text(
@@ -171,18 +195,11 @@ fn disrupt_text(alloc: Global, disrupt: &Disrupt) -> Result<Bytes, NoMemory>
         Disrupt::Pass => Bytes::copy(alloc, b"pass"),
         Disrupt::Deny => Bytes::copy(alloc, b"deny"),
         Disrupt::Drop => Bytes::copy(alloc, b"drop"),
-        Disrupt::Redirect(location) => redirect_text(alloc, location),
+        Disrupt::Redirect(location) => macro_piece(alloc, b"redirect:", location),
         Disrupt::Allow => Bytes::copy(alloc, b"allow"),
         Disrupt::AllowPhase => Bytes::copy(alloc, b"allow:phase"),
         Disrupt::AllowRequest => Bytes::copy(alloc, b"allow:request"),
     }
-}
-
-fn redirect_text(alloc: Global, location: &Macro) -> Result<Bytes, NoMemory>
-    ensures { IfOk result (λ bytes. bytes ≡ disrupt_text (Disrupt.Redirect location.now)) }
-{
-    let text = macro_text(alloc, location)?;
-    quoted_piece(alloc, b"redirect:", text.as_slice())
 }
 
 fn log_text(is_logged: bool) -> &'static [u8]
@@ -194,30 +211,37 @@ fn log_text(is_logged: bool) -> &'static [u8]
 fn setvar_text(alloc: Global, setvar: &SetVar) -> Result<Bytes, NoMemory>
     ensures { IfOk result (λ bytes. bytes ≡ setvar_text setvar.now) }
 {
-    let name = macro_text(alloc, &setvar.name)?;
-    let text = change_text(alloc, name.as_slice(), &setvar.change)?;
+    let mut text = Bytes::new(alloc);
+    put_change(&setvar.name, &setvar.change, &mut text)?;
     quoted_piece(alloc, b"setvar:", text.as_slice())
 }
 
-fn change_text(alloc: Global, name: &[u8], change: &Change) -> Result<Bytes, NoMemory>
-    ensures { IfOk result (λ bytes. bytes ≡ change_text name.now change.now) }
+fn put_change(name: &Macro, change: &Change, out: &mut Bytes) -> Result<(), NoMemory>
+    ensures { OnOk result (out.new ≡ out.old ++ change_text (macro_text name.now) change.now) }
 {
     match change {
-        Change::Put(value) => assignment(alloc, name, b"=", value),
-        Change::Add(value) => assignment(alloc, name, b"=+", value),
-        Change::Sub(value) => assignment(alloc, name, b"=-", value),
-        Change::Delete => behind(alloc, b"!tx.", name),
+        Change::Put(value) => put_assignment(name, b"=", value, out),
+        Change::Add(value) => put_assignment(name, b"=+", value, out),
+        Change::Sub(value) => put_assignment(name, b"=-", value, out),
+        Change::Delete => put_deletion(name, out),
     }
 }
 
-fn assignment(alloc: Global, name: &[u8], sign: &[u8], value: &Macro) -> Result<Bytes, NoMemory>
-    ensures { IfOk result (λ bytes. bytes ≡ codes "tx." ++ name.now ++ sign.now ++ macro_text value.now) }
+fn put_assignment(name: &Macro, sign: &[u8], value: &Macro, out: &mut Bytes) -> Result<(), NoMemory>
+    ensures { OnOk result (out.new ≡
+        out.old ++ codes "tx." ++ macro_text name.now ++ sign.now ++ macro_text value.now) }
 {
-    let text = macro_text(alloc, value)?;
-    let mut out = behind(alloc, b"tx.", name)?;
+    out.append(b"tx.")?;
+    put_macro(name, out)?;
     out.append(sign)?;
-    out.append(text.as_slice())?;
-    Ok(out)
+    put_macro(value, out)
+}
+
+fn put_deletion(name: &Macro, out: &mut Bytes) -> Result<(), NoMemory>
+    ensures { OnOk result (out.new ≡ out.old ++ codes "!tx." ++ macro_text name.now) }
+{
+    out.append(b"!tx.")?;
+    put_macro(name, out)
 }
 
 fn ctl_text(alloc: Global, ctl: &Ctl) -> Result<Bytes, NoMemory>
@@ -249,19 +273,18 @@ pub(crate) fn switch_text(is_on: bool) -> &'static [u8]
 fn removal(alloc: Global, first: u32, last: u32) -> Result<Bytes, NoMemory>
     ensures { IfOk result (λ bytes. bytes ≡ change_of_setting (Ctl.RemoveById first last)) }
 {
-    let range = range_text(alloc, first, last)?;
-    behind(alloc, b"ruleRemoveById=", range.as_slice())
+    let mut out = Bytes::copy(alloc, b"ruleRemoveById=")?;
+    put_range(first, last, &mut out)?;
+    Ok(out)
 }
 
-fn range_text(alloc: Global, first: u32, last: u32) -> Result<Bytes, NoMemory>
-    ensures { IfOk result (λ bytes. bytes ≡ range_text first last) }
+fn put_range(first: u32, last: u32, out: &mut Bytes) -> Result<(), NoMemory>
+    ensures { OnOk result (out.new ≡ out.old ++ range_text first last) }
 {
-    let mut out = decimal(alloc, u64::from(first))?;
+    put_decimal(u64::from(first), out)?;
     if first == last {
-        return Ok(out);
+        return Ok(());
     }
     out.append(b"-")?;
-    let digits = decimal(alloc, u64::from(last))?;
-    out.append(digits.as_slice())?;
-    Ok(out)
+    put_decimal(u64::from(last), out)
 }

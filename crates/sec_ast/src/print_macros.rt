@@ -1,21 +1,19 @@
-ghost use Rattle.std.specs.Prelude.{◌≡◌, ◌++◌, IfOk, OnOk};
+ghost use Rattle.std.specs.Prelude.{◌≡◌, ◌++◌, OnOk};
 ghost use Rattle.sec_ast.specs.PrintMacros.{key_text, macro_text, part_text};
 
 use crate::macros::{Macro, Part};
 use crate::variable::Var;
-use std::alloc::Global;
 use waf_plain::{Bytes, NoMemory};
 
-/// A macro as it is written: text as it is, references in braces.
+/// Puts a macro as it is written: text as it is, references in braces.
 #[tactic(auto, unfolding(crate::specs::PrintMacros::macro_text))]
-pub(crate) fn macro_text(alloc: Global, parts: &Macro) -> Result<Bytes, NoMemory>
-    ensures { IfOk result (λ bytes. bytes ≡ macro_text parts.now) }
+pub(crate) fn put_macro(parts: &Macro, out: &mut Bytes) -> Result<(), NoMemory>
+    ensures { OnOk result (out.new ≡ out.old ++ macro_text parts.now) }
 {
-    let mut out = Bytes::new(alloc);
     for part in parts.as_slice() {
-        put_part(part, &mut out)?;
+        put_part(part, out)?;
     }
-    Ok(out)
+    Ok(())
 }
 
 fn put_part(part: &Part, out: &mut Bytes) -> Result<(), NoMemory>

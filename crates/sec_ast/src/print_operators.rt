@@ -1,23 +1,28 @@
-ghost use Rattle.std.specs.Prelude.{◌≡◌, ◌++◌, ◌<◌, IfOk, OnOk, codes, map, if◌then◌else◌};
+ghost use Rattle.std.specs.Prelude.{◌≡◌, ◌++◌, ◌∷◌, ◌<◌, OnOk, codes, map, if◌then◌else◌};
 ghost use Rattle.std.specs.List.{join_with_byte};
 ghost use Rattle.sec_ast.specs.PrintOperators.{argument_text, behind_blank, hex_digit, is_plain, operator_text, phrase_byte, phrase_text};
 
 use crate::operator::{Op, OpKind};
-use crate::print_macros::macro_text;
-use crate::print_texts::joined;
+use crate::print_macros::put_macro;
+use crate::print_texts::put_joined;
 use std::alloc::Global;
-use waf_plain::{Bytes, NoMemory, Seq};
+use waf_plain::{Bytes, NoMemory};
 
-/// An operator as it is written, with its argument.
+/// Puts an operator as it is written, with its argument.
 #[tactic(auto, unfolding(crate::specs::PrintOperators::operator_text))]
-pub(crate) fn operator_text(alloc: Global, negated: bool, op: &Op) -> Result<Bytes, NoMemory>
-    ensures { IfOk result (λ bytes. bytes ≡ operator_text negated op.now) }
+pub(crate) fn put_operator(
+    alloc: Global,
+    negated: bool,
+    op: &Op,
+    out: &mut Bytes,
+) -> Result<(), NoMemory>
+    ensures { OnOk result (out.new ≡ out.old ++ operator_text negated op.now) }
 {
-    let mut out = Bytes::copy(alloc, sign(negated))?;
+    let mut argument = Bytes::new(alloc);
+    put_argument(op, &mut argument)?;
+    out.append(sign(negated))?;
     out.append(op.kind.name())?;
-    let argument = argument_text(alloc, op)?;
-    put_behind_blank(argument.as_slice(), &mut out)?;
-    Ok(out)
+    put_behind_blank(argument.as_slice(), out)
 }
 
 fn sign(negated: bool) -> &'static [u8]
@@ -36,34 +41,43 @@ fn put_behind_blank(argument: &[u8], out: &mut Bytes) -> Result<(), NoMemory>
     out.append(argument)
 }
 
-fn argument_text(alloc: Global, op: &Op) -> Result<Bytes, NoMemory>
-    ensures { IfOk result (λ bytes. bytes ≡ argument_text op.now.kind op.now.text op.now.words) }
+fn put_argument(op: &Op, out: &mut Bytes) -> Result<(), NoMemory>
+    ensures { OnOk result (out.new ≡ out.old ++ argument_text op.now.kind op.now.text op.now.words) }
 {
     match op.kind {
-        OpKind::Pm => phrases_text(alloc, &op.words),
-        OpKind::IpMatch | OpKind::ValidateByteRange => joined(alloc, b',', &op.words),
-        _ => macro_text(alloc, &op.text),
+        OpKind::Pm => put_phrases(op.words.as_slice(), out),
+        OpKind::IpMatch | OpKind::ValidateByteRange => put_joined(b',', op.words.as_slice(), out),
+        _ => put_macro(&op.text, out),
     }
 }
 
-fn phrases_text(alloc: Global, phrases: &Seq<Bytes>) -> Result<Bytes, NoMemory>
-    ensures { IfOk result (λ bytes. bytes ≡ join_with_byte 32 (map phrase_text phrases.now)) }
+fn put_phrases(phrases: &[Bytes], out: &mut Bytes) -> Result<(), NoMemory>
+    ensures { OnOk result (out.new ≡ out.old ++ join_with_byte 32 (map phrase_text phrases.now)) }
 {
-    let mut pieces = Seq::new(alloc);
-    for phrase in phrases.as_slice() {
-        pieces.push(phrase_text(alloc, phrase.as_slice())?)?;
+    let Some((first, others)) = phrases.split_first() else {
+        return Ok(());
+    };
+    put_phrase(first.as_slice(), out)?;
+    for phrase in others {
+        put_further_phrase(phrase.as_slice(), out)?;
     }
-    joined(alloc, b' ', &pieces)
+    Ok(())
 }
 
-fn phrase_text(alloc: Global, phrase: &[u8]) -> Result<Bytes, NoMemory>
-    ensures { IfOk result (λ bytes. bytes ≡ phrase_text phrase.now) }
+fn put_further_phrase(phrase: &[u8], out: &mut Bytes) -> Result<(), NoMemory>
+    ensures { OnOk result (out.new ≡ out.old ++ 32 ∷ phrase_text phrase.now) }
 {
-    let mut out = Bytes::new(alloc);
+    out.push(b' ')?;
+    put_phrase(phrase, out)
+}
+
+fn put_phrase(phrase: &[u8], out: &mut Bytes) -> Result<(), NoMemory>
+    ensures { OnOk result (out.new ≡ out.old ++ phrase_text phrase.now) }
+{
     for byte in phrase {
-        put_phrase_byte(*byte, &mut out)?;
+        put_phrase_byte(*byte, out)?;
     }
-    Ok(out)
+    Ok(())
 }
 
 fn put_phrase_byte(byte: u8, out: &mut Bytes) -> Result<(), NoMemory>

@@ -1,31 +1,38 @@
-ghost use Rattle.std.specs.Prelude.{◌≡◌, IfOk};
+ghost use Rattle.std.specs.Prelude.{◌≡◌, ◌++◌, ◌∷◌, OnOk};
 ghost use Rattle.sec_ast.specs.PrintTargets.{mark_text, select_text, target_text, targets_text};
 
-use crate::print_texts::{behind, escaped, joined};
+use crate::print_texts::put_escaped;
 use crate::target::{Select, Target};
-use std::alloc::Global;
-use waf_plain::{Bytes, NoMemory, Seq};
+use waf_plain::{Bytes, NoMemory};
 
-/// A target list as it is written, parted by bars.
+/// Puts a target list as it is written, parted by bars.
 #[tactic(auto, unfolding(crate::specs::PrintTargets::targets_text))]
-pub(crate) fn targets_text(alloc: Global, targets: &Seq<Target>) -> Result<Bytes, NoMemory>
-    ensures { IfOk result (λ bytes. bytes ≡ targets_text targets.now) }
+pub(crate) fn put_targets(targets: &[Target], out: &mut Bytes) -> Result<(), NoMemory>
+    ensures { OnOk result (out.new ≡ out.old ++ targets_text targets.now) }
 {
-    let mut pieces = Seq::new(alloc);
-    for target in targets.as_slice() {
-        pieces.push(target_text(alloc, target)?)?;
+    let Some((first, others)) = targets.split_first() else {
+        return Ok(());
+    };
+    put_target(first, out)?;
+    for target in others {
+        put_further_target(target, out)?;
     }
-    joined(alloc, b'|', &pieces)
+    Ok(())
 }
 
-fn target_text(alloc: Global, target: &Target) -> Result<Bytes, NoMemory>
-    ensures { IfOk result (λ bytes. bytes ≡ target_text target.now) }
+fn put_further_target(target: &Target, out: &mut Bytes) -> Result<(), NoMemory>
+    ensures { OnOk result (out.new ≡ out.old ++ 124 ∷ target_text target.now) }
 {
-    let mut out = Bytes::copy(alloc, mark_text(target.exclude, target.count))?;
+    out.push(b'|')?;
+    put_target(target, out)
+}
+
+fn put_target(target: &Target, out: &mut Bytes) -> Result<(), NoMemory>
+    ensures { OnOk result (out.new ≡ out.old ++ target_text target.now) }
+{
+    out.append(mark_text(target.exclude, target.count))?;
     out.append(target.var.name())?;
-    let select = select_text(alloc, &target.select)?;
-    out.append(select.as_slice())?;
-    Ok(out)
+    put_select(&target.select, out)
 }
 
 fn mark_text(exclude: bool, count: bool) -> &'static [u8]
@@ -38,22 +45,27 @@ fn mark_text(exclude: bool, count: bool) -> &'static [u8]
     }
 }
 
-fn select_text(alloc: Global, select: &Select) -> Result<Bytes, NoMemory>
-    ensures { IfOk result (λ bytes. bytes ≡ select_text select.now) }
+fn put_select(select: &Select, out: &mut Bytes) -> Result<(), NoMemory>
+    ensures { OnOk result (out.new ≡ out.old ++ select_text select.now) }
 {
     match select {
-        Select::All => Ok(Bytes::new(alloc)),
-        Select::Name(name) => behind(alloc, b":", name.as_slice()),
-        Select::Pattern(pattern) => pattern_text(alloc, pattern.as_slice()),
+        Select::All => Ok(()),
+        Select::Name(name) => put_name(name.as_slice(), out),
+        Select::Pattern(pattern) => put_pattern(pattern.as_slice(), out),
     }
 }
 
-fn pattern_text(alloc: Global, pattern: &[u8]) -> Result<Bytes, NoMemory>
-    ensures { IfOk result (λ bytes. bytes ≡ select_text (Select.Pattern pattern.now)) }
+fn put_name(name: &[u8], out: &mut Bytes) -> Result<(), NoMemory>
+    ensures { OnOk result (out.new ≡ out.old ++ select_text (Select.Name name.now)) }
 {
-    let mut out = Bytes::copy(alloc, b":/")?;
-    let inner = escaped(alloc, b'/', pattern)?;
-    out.append(inner.as_slice())?;
-    out.append(b"/")?;
-    Ok(out)
+    out.append(b":")?;
+    out.append(name)
+}
+
+fn put_pattern(pattern: &[u8], out: &mut Bytes) -> Result<(), NoMemory>
+    ensures { OnOk result (out.new ≡ out.old ++ select_text (Select.Pattern pattern.now)) }
+{
+    out.append(b":/")?;
+    put_escaped(b'/', pattern, out)?;
+    out.append(b"/")
 }

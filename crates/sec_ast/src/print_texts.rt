@@ -4,17 +4,16 @@ ghost use Rattle.sec_ast.specs.PrintTexts.{escaped, in_quotes, line_of, marked, 
 
 use itoa::Buffer;
 use std::alloc::Global;
-use waf_plain::{Bytes, NoMemory, Seq};
+use waf_plain::{Bytes, NoMemory};
 
-/// The text with `\` before each quote.
-pub(crate) fn escaped(alloc: Global, quote: u8, text: &[u8]) -> Result<Bytes, NoMemory>
-    ensures { IfOk result (λ bytes. bytes ≡ escaped quote text.now) }
+/// Puts the text with `\` before each quote.
+pub(crate) fn put_escaped(quote: u8, text: &[u8], out: &mut Bytes) -> Result<(), NoMemory>
+    ensures { OnOk result (out.new ≡ out.old ++ escaped quote text.now) }
 {
-    let mut out = Bytes::new(alloc);
     for byte in text {
-        put_marked(quote, *byte, &mut out)?;
+        put_marked(quote, *byte, out)?;
     }
-    Ok(out)
+    Ok(())
 }
 
 fn put_marked(quote: u8, byte: u8, out: &mut Bytes) -> Result<(), NoMemory>
@@ -27,15 +26,12 @@ fn put_marked(quote: u8, byte: u8, out: &mut Bytes) -> Result<(), NoMemory>
     out.push(byte)
 }
 
-pub(crate) fn in_quotes(alloc: Global, quote: u8, text: &[u8]) -> Result<Bytes, NoMemory>
-    ensures { IfOk result (λ bytes. bytes ≡ in_quotes quote text.now) }
+pub(crate) fn put_in_quotes(quote: u8, text: &[u8], out: &mut Bytes) -> Result<(), NoMemory>
+    ensures { OnOk result (out.new ≡ out.old ++ in_quotes quote text.now) }
 {
-    let inner = escaped(alloc, quote, text)?;
-    let mut out = Bytes::new(alloc);
     out.push(quote)?;
-    out.append(inner.as_slice())?;
-    out.push(quote)?;
-    Ok(out)
+    put_escaped(quote, text, out)?;
+    out.push(quote)
 }
 
 /// One text behind the other.
@@ -47,46 +43,43 @@ pub(crate) fn behind(alloc: Global, label: &[u8], text: &[u8]) -> Result<Bytes, 
     Ok(out)
 }
 
-pub(crate) fn decimal(alloc: Global, number: u64) -> Result<Bytes, NoMemory>
-    ensures { IfOk result (λ bytes. bytes ≡ decimal number) }
+pub(crate) fn put_decimal(number: u64, out: &mut Bytes) -> Result<(), NoMemory>
+    ensures { OnOk result (out.new ≡ out.old ++ decimal number) }
 {
     let mut buffer = Buffer::new();
-    Bytes::copy(alloc, buffer.format(number).as_bytes())
+    out.append(buffer.format(number).as_bytes())
 }
 
-/// The pieces, with the byte between each two.
-pub(crate) fn joined(alloc: Global, byte: u8, pieces: &Seq<Bytes>) -> Result<Bytes, NoMemory>
-    ensures { IfOk result (λ bytes. bytes ≡ join_with_byte byte pieces.now) }
+/// Puts the pieces, with the byte between each two.
+pub(crate) fn put_joined(byte: u8, pieces: &[Bytes], out: &mut Bytes) -> Result<(), NoMemory>
+    ensures { OnOk result (out.new ≡ out.old ++ join_with_byte byte pieces.now) }
 {
-    let mut out = Bytes::new(alloc);
-    let Some((first, others)) = pieces.as_slice().split_first() else {
-        return Ok(out);
+    let Some((first, others)) = pieces.split_first() else {
+        return Ok(());
     };
     out.append(first.as_slice())?;
     for piece in others {
         out.push(byte)?;
         out.append(piece.as_slice())?;
     }
-    Ok(out)
+    Ok(())
 }
 
-/// A directive's line: its name and its words in quotes.
+/// Puts a directive's line: its name and its words in quotes.
 #[tactic(auto, unfolding(crate::specs::PrintTexts::line_of))]
-pub(crate) fn line_of(alloc: Global, name: &[u8], words: &[&[u8]]) -> Result<Bytes, NoMemory>
-    ensures { IfOk result (λ bytes. bytes ≡ line_of name.now (map (λ word. word.now) words.now)) }
+pub(crate) fn put_line(name: &[u8], words: &[&[u8]], out: &mut Bytes) -> Result<(), NoMemory>
+    ensures { OnOk result (out.new ≡ out.old ++ line_of name.now (map (λ word. word.now) words.now)) }
 {
-    let mut out = Bytes::copy(alloc, name)?;
+    out.append(name)?;
     for word in words {
-        put_word(alloc, *word, &mut out)?;
+        put_word(*word, out)?;
     }
-    out.push(b'\n')?;
-    Ok(out)
+    out.push(b'\n')
 }
 
-fn put_word(alloc: Global, word: &[u8], out: &mut Bytes) -> Result<(), NoMemory>
+fn put_word(word: &[u8], out: &mut Bytes) -> Result<(), NoMemory>
     ensures { OnOk result (out.new ≡ out.old ++ spread word.now) }
 {
-    let quoted = in_quotes(alloc, b'"', word)?;
     out.push(b' ')?;
-    out.append(quoted.as_slice())
+    put_in_quotes(b'"', word, out)
 }

@@ -89,13 +89,15 @@ with_next piece rest (Err fault) = Err fault
 
 abbrev pub next_action : Stand → Progress → Result (Option (Piece × Progress)) Bad
 next_action stand (None, acts) = Ok None
-next_action stand (Some text, acts) = piece_at text >>= λ piece. with_next piece.0 piece.1 (with_piece stand piece.0 acts)
+next_action stand (Some text, acts) =
+    piece_at text >>= λ piece. with_next piece.0 piece.1 (with_piece stand piece.0 acts)
 
 -- good pieces up to the end say this, or some good pieces come before one that is refused with this fault
 abbrev pub ActsFrom : Stand → Progress → Result Acts Bad → Type 0
 ActsFrom stand start (Ok acts) = (pieces : List Piece) × Takes (next_action stand) start pieces (None, acts)
 ActsFrom stand start (Err fault) =
-    (pieces : List Piece) × (rest : Progress) × Takes (next_action stand) start pieces rest × (next_action stand rest ≡ Err fault)
+    (pieces : List Piece) × (rest : Progress) × Takes (next_action stand) start pieces rest
+    × (next_action stand rest ≡ Err fault)
 
 abbrev pub AreActs : Stand → List ℕ → Result Acts Bad → Type 0
 AreActs stand text answer = ActsFrom stand (Some text, no_acts) answer

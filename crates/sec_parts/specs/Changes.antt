@@ -49,7 +49,8 @@ assignment piece text = assigned piece (take (to_byte 61 text) text) (drop (to_b
 
 abbrev pub deletion : List ℕ → List ℕ → Result Action Bad
 deletion piece [] = bad piece
-deletion piece (b ∷ name) = macro_of (b ∷ name) >>= λ parts. Ok (actions.SetVar (record { name = parts; change = changes.Delete }))
+deletion piece (b ∷ name) =
+    macro_of (b ∷ name) >>= λ parts. Ok (actions.SetVar (record { name = parts; change = changes.Delete }))
 
 -- collections that last longer than a transaction
 unfoldable pub is_refused_collection : List ℕ → Bool

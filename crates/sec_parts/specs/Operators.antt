@@ -52,13 +52,16 @@ literal [] = []
 literal (b ∷ text) = parts.Text (b ∷ text) ∷ []
 
 abbrev pub with_text : Bool → OpKind → List Part → Operator
-with_text negated kind text = record { negated = negated; op = record { kind = kind; text = text; words = [] }; file = None }
+with_text negated kind text =
+    record { negated = negated; op = record { kind = kind; text = text; words = [] }; file = None }
 
 abbrev pub with_words : Bool → OpKind → List (List ℕ) → Operator
-with_words negated kind words = record { negated = negated; op = record { kind = kind; text = []; words = words }; file = None }
+with_words negated kind words =
+    record { negated = negated; op = record { kind = kind; text = []; words = words }; file = None }
 
 abbrev pub from_file : Bool → OpKind → List ℕ → Operator
-from_file negated kind name = record { negated = negated; op = record { kind = kind; text = []; words = [] }; file = Some name }
+from_file negated kind name =
+    record { negated = negated; op = record { kind = kind; text = []; words = [] }; file = Some name }
 
 abbrev pub without_argument : Bool → OpKind → List ℕ → Result Operator Bad
 without_argument negated kind [] = Ok (with_text negated kind [])
@@ -80,8 +83,10 @@ with_argument negated argument kinds.Ge = expanded negated kinds.Ge argument
 with_argument negated argument kinds.Gt = expanded negated kinds.Gt argument
 with_argument negated argument kinds.Le = expanded negated kinds.Le argument
 with_argument negated argument kinds.Lt = expanded negated kinds.Lt argument
-with_argument negated argument kinds.IpMatch = addresses_of argument >>= λ words. Ok (with_words negated kinds.IpMatch words)
-with_argument negated argument kinds.ValidateByteRange = ranges_of argument >>= λ words. Ok (with_words negated kinds.ValidateByteRange words)
+with_argument negated argument kinds.IpMatch =
+    addresses_of argument >>= λ words. Ok (with_words negated kinds.IpMatch words)
+with_argument negated argument kinds.ValidateByteRange =
+    ranges_of argument >>= λ words. Ok (with_words negated kinds.ValidateByteRange words)
 with_argument negated argument kinds.ValidateUrlEncoding = without_argument negated kinds.ValidateUrlEncoding argument
 with_argument negated argument kinds.ValidateUtf8Encoding = without_argument negated kinds.ValidateUtf8Encoding argument
 with_argument negated argument kinds.UnconditionalMatch = without_argument negated kinds.UnconditionalMatch argument

@@ -12,14 +12,16 @@ Read = Result (Piece × Option (List ℕ)) Bad
 
 -- the piece that ends before rest, with this name and value
 abbrev pub ended : List ℕ → List ℕ → Option (List ℕ) → List ℕ → Read
-ended text name value rest = Ok (record { name = trim name; value = value; text = piece_before text rest }, behind_first rest)
+ended text name value rest =
+    Ok (record { name = trim name; value = value; text = piece_before text rest }, behind_first rest)
 
 -- behind a closing quote come blanks and then a comma or the end
 abbrev pub closed : List ℕ → List ℕ → Option (List ℕ × List ℕ) → Read
 closed text name None = unclosed (trim text)
 closed text name (Some x) =
     let rest = drop (to_byte 44 x.1) x.1 in
-    if list_all is_blank (take (to_byte 44 x.1) x.1) then ended text name (Some x.0) rest else bad (piece_before text rest)
+    if list_all is_blank (take (to_byte 44 x.1) x.1) then ended text name (Some x.0) rest
+    else bad (piece_before text rest)
 
 -- a plain value does not end with \
 abbrev pub plain : List ℕ → List ℕ → List ℕ → Read
@@ -36,7 +38,8 @@ valued text name (b ∷ rest) = if b == 39 then closed text name (quoted 39 rest
 -- behind the name stands a colon, a comma or the end
 abbrev pub behind_name : List ℕ → List ℕ → List ℕ → Read
 behind_name text name [] = ended text name None []
-behind_name text name (b ∷ rest) = if b == 58 then valued text name (skip_blanks rest) else ended text name None (b ∷ rest)
+behind_name text name (b ∷ rest) =
+    if b == 58 then valued text name (skip_blanks rest) else ended text name None (b ∷ rest)
 
 -- the piece that a text begins with, and what stands behind its comma
 unfoldable pub piece_at : List ℕ → Read

@@ -89,7 +89,8 @@ abbrev pub selected : List ℕ → Marks → Option Select → Option Var → Re
 selected piece marks select None = bad piece
 selected piece marks None (Some var) = bad piece
 selected piece marks (Some select) (Some var) =
-    if fits select var then Ok (record { count = marks.count; exclude = marks.exclude; var = var; select = select }) else bad piece
+    if fits select var then Ok (record { count = marks.count; exclude = marks.exclude; var = var; select = select })
+    else bad piece
 
 abbrev pub Read : Type 0
 Read = Result (Target × Option (List ℕ)) Bad
@@ -108,7 +109,8 @@ behind_name marks text name (b ∷ rest) =
     else found marks text name (variable_named (trim_end name)) (Some selects.All, b ∷ rest)
 
 abbrev pub unmarked : Marks → List ℕ → List ℕ → Read
-unmarked marks text here = behind_name marks text (take (to_either 124 58 here) here) (drop (to_either 124 58 here) here)
+unmarked marks text here =
+    behind_name marks text (take (to_either 124 58 here) here) (drop (to_either 124 58 here) here)
 
 -- ! takes away, & counts
 abbrev pub marked : List ℕ → List ℕ → Read

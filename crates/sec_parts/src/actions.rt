@@ -16,7 +16,7 @@ use std::alloc::Global;
 use waf_plain::Bytes;
 
 // What one piece of a list of actions says.
-#[derive(Debug, Drop)]
+#[derive(Drop)]
 pub enum Action {
     Id(u32),
     Phase(u8),

@@ -1,7 +1,7 @@
-ghost use Rattle.std.specs.Prelude.{◌≡◌, IfOk, List, Result, ℕ};
+ghost use Rattle.std.specs.Prelude.{◌≡◌, length, OnOk, List, Result, Some, suc, ℕ};
 ghost use Rattle.sec_parts.specs.declared.faults.Bad.{Bad};
 ghost use Rattle.sec_parts.specs.Results.{Gives};
-ghost use Rattle.sec_parts.specs.Acts.{AreActs, actions_in, added, no_acts, repeats, with_action, with_piece};
+ghost use Rattle.sec_parts.specs.Acts.{AreActs, actions_in, added, no_acts, pieces_in, repeats, with_action, with_piece};
 
 use crate::actions::{Action, read_action};
 use crate::faults::{Refusal, bad_word};
@@ -60,16 +60,15 @@ impl Acts {
 }
 
 // One more action, whatever stood before it.
-fn add_action(alloc: Global, action: Action, acts: Acts) -> Result<Acts, NoMemory>
-    ensures { IfOk result (λ a. a ≡ with_action action acts) }
+fn add_action(alloc: Global, action: Action, acts: &mut Acts) -> Result<(), NoMemory>
+    ensures { OnOk result (acts.new ≡ with_action action acts.old) }
 {
-    let mut acts = acts;
     match action {
         Action::Id(id) => acts.id = Some(id),
         Action::Phase(phase) => acts.phase = Some(phase),
         Action::Msg(text) => acts.msg = text,
         Action::Logdata(text) => acts.logdata = text,
-        Action::Tag(tag) => acts.tags.push(tag)?,
+        Action::Tag(tag) => return acts.tags.push(tag),
         Action::Log(is_logged) => acts.log = Some(is_logged),
         Action::Disrupt(disrupt) => acts.disrupt = Some(disrupt),
         Action::Block => acts.disrupt = None,
@@ -78,14 +77,14 @@ fn add_action(alloc: Global, action: Action, acts: Acts) -> Result<Acts, NoMemor
         Action::SkipAfter(label) => acts.skip_after = Some(label),
         Action::Chain => acts.chain = true,
         Action::NoTransforms => acts.transforms = Seq::new(alloc),
-        Action::Transform(transform) => acts.transforms.push(transform)?,
+        Action::Transform(transform) => return acts.transforms.push(transform),
         Action::Capture => acts.capture = true,
         Action::MultiMatch => acts.multi = true,
-        Action::SetVar(setvar) => acts.setvars.push(setvar)?,
-        Action::Ctl(ctl) => acts.ctls.push(ctl)?,
+        Action::SetVar(setvar) => return acts.setvars.push(setvar),
+        Action::Ctl(ctl) => return acts.ctls.push(ctl),
         Action::Nothing => {}
     }
-    Ok(acts)
+    Ok(())
 }
 
 fn stands_again(action: &Action, acts: &Acts) -> bool
@@ -97,22 +96,37 @@ fn stands_again(action: &Action, acts: &Acts) -> bool
     }
 }
 
-fn add_checked(alloc: Global, piece: &[u8], action: Action, acts: Acts) -> Result<Acts, Refusal>
-    ensures { Gives (λ a. a) result (added piece.now action acts) }
+fn add_checked(alloc: Global, piece: &[u8], action: Action, acts: &mut Acts) -> Result<(), Refusal>
+    ensures { Gives (λ _. acts.new) result (added piece.now action acts.old) }
 {
-    if stands_again(&action, &acts) {
+    if stands_again(&action, acts) {
         return Err(bad_word(alloc, piece));
     }
-    let acts = add_action(alloc, action, acts)?;
-    Ok(acts)
+    add_action(alloc, action, acts)?;
+    Ok(())
 }
 
 #[tactic(auto, unfolding(crate::specs::Acts::with_piece))]
-fn add_piece(alloc: Global, stand: Stand, piece: &Piece, acts: Acts) -> Result<Acts, Refusal>
-    ensures { Gives (λ a. a) result (with_piece stand piece.now acts) }
+fn add_piece(alloc: Global, stand: Stand, piece: &Piece, acts: &mut Acts) -> Result<(), Refusal>
+    ensures { Gives (λ _. acts.new) result (with_piece stand piece.now acts.old) }
 {
     let action = read_action(alloc, stand, piece)?;
     add_checked(alloc, piece.text.as_slice(), action, acts)
+}
+
+// The pieces of a list, each added to what was said.
+fn add_pieces(alloc: Global, stand: Stand, text: &[u8], acts: &mut Acts) -> Result<(), Refusal>
+    ensures { Gives (λ _. acts.new) result (pieces_in stand (suc (length text.now)) (Some text.now) acts.old) }
+{
+    let mut rest = Some(text);
+    while let Some(here) = rest {
+        let (piece, after) = read_piece(alloc, here)?;
+        let added = add_piece(alloc, stand, &piece, acts);
+        drop(piece);
+        added?;
+        rest = after;
+    }
+    Ok(())
 }
 
 /// What a list of actions says, its pieces parted by commas. A single quote that does not close is
@@ -125,13 +139,13 @@ pub fn read_actions(alloc: Global, stand: Stand, text: &[u8]) -> Result<Acts, Re
     ensures { Gives (λ a. a) result (actions_in stand text.now) }
 {
     let mut acts = Acts::none(alloc);
-    let mut rest = Some(text);
-    while let Some(here) = rest {
-        let (piece, after) = read_piece(alloc, here)?;
-        acts = add_piece(alloc, stand, &piece, acts)?;
-        rest = after;
+    match add_pieces(alloc, stand, text, &mut acts) {
+        Ok(()) => Ok(acts),
+        Err(refusal) => {
+            drop(acts);
+            Err(refusal)
+        }
     }
-    Ok(acts)
 }
 
 /// A list of actions has one reading: what its pieces say, one added to the other, or the fault of

@@ -12,7 +12,7 @@ use std::alloc::Global;
 use waf_plain::Bytes;
 
 // What `ctl` sets, by its name.
-#[derive(Clone, Copy, Debug, PartialEq, Eq)]
+#[derive(Clone, Copy)]
 pub enum CtlKind {
     RuleEngine,
     RequestBodyAccess,

@@ -16,7 +16,7 @@ pub enum Stand {
 }
 
 // An action by its name.
-#[derive(Clone, Copy, Debug, PartialEq, Eq)]
+#[derive(Clone, Copy)]
 pub enum Kind {
     Id,
     Phase,

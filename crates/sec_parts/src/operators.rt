@@ -162,6 +162,34 @@ fn read_without(
     }
 }
 
+fn read_literal(alloc: Global, negated: bool, argument: &[u8]) -> Result<Operator, Refusal>
+    ensures { Gives (λ o. o) result (with_argument negated argument.now OpKind.Rx) }
+{
+    let text = literal_text(alloc, argument)?;
+    Ok(of_text(alloc, negated, OpKind::Rx, text))
+}
+
+fn read_pm(alloc: Global, negated: bool, argument: &[u8]) -> Result<Operator, Refusal>
+    ensures { Gives (λ o. o) result (with_argument negated argument.now OpKind.Pm) }
+{
+    let words = read_phrases(alloc, argument)?;
+    Ok(of_words(alloc, negated, OpKind::Pm, words))
+}
+
+fn read_ip_match(alloc: Global, negated: bool, argument: &[u8]) -> Result<Operator, Refusal>
+    ensures { Gives (λ o. o) result (with_argument negated argument.now OpKind.IpMatch) }
+{
+    let words = read_addresses(alloc, argument)?;
+    Ok(of_words(alloc, negated, OpKind::IpMatch, words))
+}
+
+fn read_byte_range(alloc: Global, negated: bool, argument: &[u8]) -> Result<Operator, Refusal>
+    ensures { Gives (λ o. o) result (with_argument negated argument.now OpKind.ValidateByteRange) }
+{
+    let words = read_ranges(alloc, argument)?;
+    Ok(of_words(alloc, negated, OpKind::ValidateByteRange, words))
+}
+
 // The argument of a kind, in the form that it takes.
 fn read_argument(
     alloc: Global,
@@ -172,12 +200,10 @@ fn read_argument(
     ensures { Gives (λ o. o) result (with_argument negated argument.now kind) }
 {
     match kind {
-        OpKind::Rx => Ok(of_text(alloc, negated, kind, literal_text(alloc, argument)?)),
-        OpKind::Pm => Ok(of_words(alloc, negated, kind, read_phrases(alloc, argument)?)),
-        OpKind::IpMatch => Ok(of_words(alloc, negated, kind, read_addresses(alloc, argument)?)),
-        OpKind::ValidateByteRange => {
-            Ok(of_words(alloc, negated, kind, read_ranges(alloc, argument)?))
-        }
+        OpKind::Rx => read_literal(alloc, negated, argument),
+        OpKind::Pm => read_pm(alloc, negated, argument),
+        OpKind::IpMatch => read_ip_match(alloc, negated, argument),
+        OpKind::ValidateByteRange => read_byte_range(alloc, negated, argument),
         OpKind::ValidateUrlEncoding => read_without(alloc, negated, kind, argument),
         OpKind::ValidateUtf8Encoding => read_without(alloc, negated, kind, argument),
         OpKind::UnconditionalMatch => read_without(alloc, negated, kind, argument),

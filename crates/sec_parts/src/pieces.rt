@@ -13,7 +13,7 @@ use std::alloc::Global;
 use waf_plain::Bytes;
 
 // A piece of a list of actions: its name, its value, and all of it without blanks around it.
-#[derive(Debug, Drop)]
+#[derive(Drop)]
 pub struct Piece {
     pub name: Bytes,
     pub value: Option<Bytes>,

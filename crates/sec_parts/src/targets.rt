@@ -17,7 +17,7 @@ use std::alloc::Global;
 use waf_plain::{Bytes, NoMemory, Seq};
 
 // The mark before a variable's name: `&` counts, `!` takes away.
-#[derive(Clone, Copy, Debug, PartialEq, Eq)]
+#[derive(Clone, Copy)]
 struct Marks {
     count: bool,
     exclude: bool,

@@ -33,7 +33,12 @@ tested targets operator = record { targets = targets; always = false; negated = 
 
 -- of a SecAction
 abbrev pub always : Condition
-always = record { targets = []; always = true; negated = false; op = record { kind = kinds.UnconditionalMatch; text = []; words = [] } }
+always = record {
+  targets = [];
+  always = true;
+  negated = false;
+  op = record { kind = kinds.UnconditionalMatch; text = []; words = [] };
+}
 
 abbrev pub link_of : Condition → Acts → Link
 link_of condition acts = record {
@@ -81,7 +86,8 @@ first_link file line condition None acts reading = fault file line causes.NoId [
 first_link file line condition (Some id) acts reading =
     if has_id id reading.items then fault file line causes.DoubleId (decimal id)
     else (if is_full reading.items then fault file line causes.TooLong (decimal id)
-    else Ok (with_rule acts.chain line (rule_of file line id condition acts (default_at (phase_of acts) reading.defaults)) reading))
+    else Ok (with_rule acts.chain line
+    (rule_of file line id condition acts (default_at (phase_of acts) reading.defaults)) reading))
 
 -- a rule has no more links than its limit
 abbrev pub further_link : List ℕ → ℕ → Condition → Acts → Rule → Reading → Result Reading Found
@@ -117,8 +123,10 @@ rule_with files file line targets operator actions reading = do
   acting file line targets actions reading stated
 
 abbrev pub rule_line : Named → List ℕ → ℕ → List ℕ → List (List ℕ) → Reading → Result Reading Found
-rule_line files file line name (targets ∷ operator ∷ []) reading = rule_with files file line targets operator None reading
-rule_line files file line name (targets ∷ operator ∷ actions ∷ []) reading = rule_with files file line targets operator (Some actions) reading
+rule_line files file line name (targets ∷ operator ∷ []) reading =
+    rule_with files file line targets operator None reading
+rule_line files file line name (targets ∷ operator ∷ actions ∷ []) reading =
+    rule_with files file line targets operator (Some actions) reading
 rule_line files file line name given reading = fault file line causes.BadWord name
 
 abbrev pub action_line : List ℕ → ℕ → List ℕ → List (List ℕ) → Reading → Result Reading Found

@@ -50,21 +50,26 @@ lines_from files opener file (line ∷ lines) reading = do
 
 -- the lines of a text that was read, after what was read before it
 abbrev pub opened_lines : List ℕ → Reading → Text → Result (List Line × Reading) Found
-opened_lines name reading text = lines_at name (lines_of text.content) >>= λ lines. Ok (lines, record reading { total = text.total })
+opened_lines name reading text =
+    lines_at name (lines_of text.content) >>= λ lines. Ok (lines, record reading { total = text.total })
 
 -- a text that a directive in a file and line names by a word
 abbrev pub opened_text : List ℕ → ℕ → List ℕ → List ℕ → Option (List ℕ) → Reading → Result (List Line × Reading) Found
-opened_text file line word name content reading = admitted file line word content reading.total >>= opened_lines name reading
+opened_text file line word name content reading =
+    admitted file line word content reading.total >>= opened_lines name reading
 
 -- a name with a wildcard is refused before all else
 abbrev pub guarded : Opener → Opener
-guarded opener = λ file line word reading. if has_wildcard word then fault file line causes.RefusedByName word else opener file line word reading
+guarded opener =
+    λ file line word reading. if has_wildcard word then fault file line causes.RefusedByName word
+    else opener file line word reading
 
 -- what Include does where so many further depths are left
 abbrev pub included : Named → ℕ → Opener
 included files zero = λ file line word reading. fault file line causes.IncludeDepth word
 included files (suc depth) = λ file line word reading.
-    opened_text file line word (beside file word) (files (beside file word)) reading >>= λ found. lines_from files (guarded (included files depth)) (beside file word) found.0 found.1
+    opened_text file line word (beside file word) (files (beside file word)) reading >>= λ found.
+    lines_from files (guarded (included files depth)) (beside file word) found.0 found.1
 
 abbrev pub opened : Named → ℕ → Opener
 opened files depth = guarded (included files depth)
@@ -72,7 +77,8 @@ opened files depth = guarded (included files depth)
 -- a handed-in file; those that it includes have depths from 1 on
 abbrev pub handed_in : Named → List ℕ → Reading → Result Reading Found
 handed_in files name reading =
-    opened_text name 0 [] name (files name) reading >>= λ found. lines_from files (opened files DEPTH_LIMIT) name found.0 found.1
+    opened_text name 0 [] name (files name) reading >>= λ found.
+    lines_from files (opened files DEPTH_LIMIT) name found.0 found.1
 
 -- one after the other
 abbrev pub all_handed_in : Named → List (List ℕ) → Reading → Result Reading Found
@@ -82,7 +88,14 @@ all_handed_in files (name ∷ names) reading = handed_in files name reading >>= 
 -- ---- the listing
 
 abbrev pub nothing_read : Reading
-nothing_read = record { items = []; unfinished = None; defaults = first_defaults; settings = first_settings; removals = no_removals; total = 0 }
+nothing_read = record {
+  items = [];
+  unfinished = None;
+  defaults = first_defaults;
+  settings = first_settings;
+  removals = no_removals;
+  total = 0;
+}
 
 -- without the rules that are removed
 abbrev pub effective : Reading → Listing
@@ -115,4 +128,5 @@ IsListing files names (Err first) = IsFirstFault (listing files names) first fir
 abbrev pub IsToldFault : Fault → Halt → Type 0
 IsToldFault told (halts.Fault found) = told ≡ fault_of found
 IsToldFault told halts.NoMemory = told ≡ record { file = []; line = 0; kind = kinds.NoMemory; word = [] }
-IsToldFault told (halts.Unread spot) = told ≡ record { file = spot.file; line = spot.line; kind = kinds.ReadFault; word = spot.word }
+IsToldFault told (halts.Unread spot) =
+    told ≡ record { file = spot.file; line = spot.line; kind = kinds.ReadFault; word = spot.word }

@@ -44,7 +44,8 @@ abbrev pub filled : Named → List ℕ → ℕ → Option (List ℕ) → Operato
 filled files file line None operator total = Ok (operator, total)
 filled files file line (Some word) operator total =
     if has_wildcard word then fault file line causes.RefusedByName word
-    else (admitted file line word (files (beside file word)) total >>= λ text. Ok (with_words operator (words_in text.content), text.total))
+    else (admitted file line word (files (beside file word)) total >>= λ text.
+    Ok (with_words operator (words_in text.content), text.total))
 
 -- once its addresses are some
 abbrev pub checked_at : List ℕ → ℕ → Operator × ℕ → Result (Operator × ℕ) Found

@@ -49,7 +49,8 @@ After (Ok x) holds = holds x
 After (Err fault) holds = ⊥
 
 -- where an Include whose word it is opens files
-abbrev pub FollowsTo : (List ℕ → ℕ → List ℕ → Reading → Spot → Type 0) → List ℕ → ℕ → Option (List ℕ) → Reading → Spot → Type 0
+abbrev pub FollowsTo : (List ℕ → ℕ → List ℕ → Reading → Spot → Type 0)
+    → List ℕ → ℕ → Option (List ℕ) → Reading → Spot → Type 0
 FollowsTo includes file line None reading spot = ⊥
 FollowsTo includes file line (Some word) reading spot = includes file line word reading spot
 
@@ -58,10 +59,12 @@ abbrev pub LineOpens : Named → (List ℕ → ℕ → List ℕ → Reading → 
 LineOpens files includes file line reading spot =
     After (words_at file line.number (words line.text)) (λ given.
     IsSpot file line.number (named_file given) spot
-    ⊎ After (directive files file line.number given reading) (λ next. FollowsTo includes file line.number next.0 next.1 spot))
+    ⊎ After (directive files file line.number given reading)
+    (λ next. FollowsTo includes file line.number next.0 next.1 spot))
 
 -- the lines of a file: one of them, once those before it are read without a fault
-abbrev pub LinesOpen : Named → Opener → (List ℕ → ℕ → List ℕ → Reading → Spot → Type 0) → List ℕ → List Line → Reading → Spot → Type 0
+abbrev pub LinesOpen : Named → Opener → (List ℕ → ℕ → List ℕ → Reading → Spot → Type 0)
+    → List ℕ → List Line → Reading → Spot → Type 0
 LinesOpen files opener includes file [] reading spot = ⊥
 LinesOpen files opener includes file (line ∷ lines) reading spot =
     LineOpens files includes file line reading spot
@@ -86,7 +89,8 @@ HandedInOpens files name reading spot =
 abbrev pub AllOpen : Named → List (List ℕ) → Reading → Spot → Type 0
 AllOpen files [] reading spot = ⊥
 AllOpen files (name ∷ names) reading spot =
-    HandedInOpens files name reading spot ⊎ After (handed_in files name reading) (λ after. AllOpen files names after spot)
+    HandedInOpens files name reading spot
+    ⊎ After (handed_in files name reading) (λ after. AllOpen files names after spot)
 
 -- ---- the fault that a caller is told
 

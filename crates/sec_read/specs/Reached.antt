@@ -14,4 +14,5 @@ Reaches files opener file start (line ∷ lines) end =
 -- and these handed-in files
 abbrev pub ReachesFiles : Named → Reading → List (List ℕ) → Reading → Type 0
 ReachesFiles files start [] end = start ≡ end
-ReachesFiles files start (name ∷ names) end = (mid : Reading) × (handed_in files name start ≡ Ok mid) × ReachesFiles files mid names end
+ReachesFiles files start (name ∷ names) end =
+    (mid : Reading) × (handed_in files name start ≡ Ok mid) × ReachesFiles files mid names end

@@ -21,7 +21,8 @@ Answers view (Err e) read = Halts e read
 abbrev pub IsFault : Halt → List ℕ → ℕ → Cause → List ℕ → Type 0
 IsFault halts.NoMemory file line cause word = Unit {0}
 IsFault (halts.Unread spot) file line cause word = ⊥
-IsFault (halts.Fault found) file line cause word = found ≡ record { file = file; line = line; cause = cause; word = word }
+IsFault (halts.Fault found) file line cause word =
+    found ≡ record { file = file; line = line; cause = cause; word = word }
 
 -- ---- calls that read files, where their content is told; a read that failed owes nothing here
 

@@ -24,13 +24,15 @@ use Rattle.sec_read.specs.Settings.{with_setting}
 -- ---- directives that are no link of a rule: each by its name as written and the words behind it
 
 abbrev pub marker_line : List ℕ → ℕ → List ℕ → List (List ℕ) → Reading → Result Reading Found
-marker_line file line name (label ∷ []) reading = Ok (record reading { items = reading.items ++ items.Marker label ∷ [] })
+marker_line file line name (label ∷ []) reading =
+    Ok (record reading { items = reading.items ++ items.Marker label ∷ [] })
 marker_line file line name given reading = fault file line causes.BadWord name
 
 -- the actions must name a phase; text: all of them
 abbrev pub with_defaults : List ℕ → ℕ → List ℕ → Option ℕ → Acts → Reading → Result Reading Found
 with_defaults file line text None acts reading = fault file line causes.BadWord text
-with_defaults file line text (Some phase) acts reading = Ok (record reading { defaults = with_default phase (default_of acts) reading.defaults })
+with_defaults file line text (Some phase) acts reading =
+    Ok (record reading { defaults = with_default phase (default_of acts) reading.defaults })
 
 abbrev pub default_line : List ℕ → ℕ → List ℕ → List (List ℕ) → Reading → Result Reading Found
 default_line file line name (text ∷ []) reading = do
@@ -53,7 +55,8 @@ now_set file line word None reading = fault file line causes.BadWord word
 now_set file line word (Some settings) reading = Ok (record reading { settings = settings })
 
 abbrev pub setting_line : List ℕ → ℕ → List ℕ → Setting → List (List ℕ) → Reading → Result Reading Found
-setting_line file line name setting (word ∷ []) reading = now_set file line word (with_setting setting word reading.settings) reading
+setting_line file line name setting (word ∷ []) reading =
+    now_set file line word (with_setting setting word reading.settings) reading
 setting_line file line name setting given reading = fault file line causes.BadWord name
 
 -- ---- a directive, and a file that it names
@@ -86,7 +89,8 @@ apart file line name given reading other = Ok (None, reading)
 abbrev pub obeyed : Named → List ℕ → ℕ → List ℕ → List (List ℕ) → Reading → Directive → Answer
 obeyed files file line name given reading directives.SecRule = on (rule_line files file line name given reading)
 obeyed files file line name given reading directives.SecAction = on (action_line file line name given reading)
-obeyed files file line name given reading other = unless_open file reading.unfinished (apart file line name given reading other)
+obeyed files file line name given reading other =
+    unless_open file reading.unfinished (apart file line name given reading other)
 
 abbrev pub known : Named → List ℕ → ℕ → List ℕ → List (List ℕ) → Reading → Option Directive → Answer
 known files file line name given reading None = fault file line causes.UnknownDirective name

@@ -46,11 +46,11 @@ impl PhaseDefault {
     }
 
     // The disruptive action of a rule that names this one, or none.
-    pub fn disrupt_or(&self, given: Option<Disrupt>) -> Result<Disrupt, NoMemory>
-        ensures { IfOk result (λ disrupt. disrupt ≡ unwrap_or given self.now.disrupt) }
+    pub fn disrupt_or(&self, given: &Option<Disrupt>) -> Result<Disrupt, NoMemory>
+        ensures { IfOk result (λ disrupt. disrupt ≡ unwrap_or given.now self.now.disrupt) }
     {
         match given {
-            Some(disrupt) => Ok(disrupt),
+            Some(disrupt) => Ok(disrupt.clone()?),
             None => Ok(self.disrupt.clone()?),
         }
     }

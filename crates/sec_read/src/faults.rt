@@ -1,9 +1,11 @@
 ghost use Rattle.std.specs.Prelude.{◌≡◌};
+ghost use Rattle.sec_parts.specs.Results.{IsBad};
+ghost use Rattle.sec_parts.specs.declared.Flaw.TheVariants as flaws;
 ghost use Rattle.sec_read.specs.declared.faults.Halt.TheVariants as halts;
 ghost use Rattle.sec_read.specs.Faults.{cause_of, kind_name, kind_of};
 ghost use Rattle.sec_read.specs.Listing.{IsToldFault};
 
-use sec_parts::Flaw;
+use sec_parts::{Bad, Flaw, Refusal};
 use std::alloc::Global;
 use waf_plain::{Bytes, NoMemory};
 
@@ -130,6 +132,19 @@ pub struct Spot {
     pub file: Bytes,
     pub line: u32,
     pub word: Bytes,
+}
+
+// A word outside its form.
+pub fn bad_word(alloc: Global, word: &[u8]) -> Refusal
+    ensures { IsBad result flaws.BadWord word.now }
+{
+    match Bytes::copy(alloc, word) {
+        Ok(word) => Refusal::Bad(Bad {
+            flaw: Flaw::BadWord,
+            word,
+        }),
+        Err(_) => Refusal::NoMemory,
+    }
 }
 
 // Why the reading stopped.

@@ -204,8 +204,13 @@ fn read_listing<F: Files>(alloc: Global, names: &[Bytes], files: &mut F) -> Resu
     ensures told { IfSome (F.content files.old) (λ told. Tells (λ l. l) result (listing told names.now)) }
 {
     let mut reading = Reading::nothing(alloc);
-    read_each(alloc, files, names, &mut reading)?;
-    Ok(list(reading))
+    match read_each(alloc, files, names, &mut reading) {
+        Ok(()) => Ok(list(reading)),
+        Err(halt) => {
+            drop(reading);
+            Err(halt)
+        }
+    }
 }
 
 #[tactic(auto, unfolding(crate::specs::Listing::listing))]
@@ -218,8 +223,13 @@ fn read_one<F: Files>(alloc: Global, name: &[u8], files: &mut F) -> Result<Listi
     ensures told { IfSome (F.content files.old) (λ told. Tells (λ l. l) result (listing told (name.now ∷ []))) }
 {
     let mut reading = Reading::nothing(alloc);
-    read_handed_in(alloc, files, name, &mut reading)?;
-    Ok(list(reading))
+    match read_handed_in(alloc, files, name, &mut reading) {
+        Ok(()) => Ok(list(reading)),
+        Err(halt) => {
+            drop(reading);
+            Err(halt)
+        }
+    }
 }
 
 /// The listing of a file and of those that it includes, without the rules that are removed, or the

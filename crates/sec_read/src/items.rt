@@ -68,7 +68,13 @@ impl Items {
             rule_count,
         } = self;
         let mut ids = ids;
-        ids.insert(rule.id)?;
+        match ids.insert(rule.id) {
+            Ok(_) => {}
+            Err(_) => {
+                drop(rule);
+                return Err(NoMemory);
+            }
+        }
         let mut list = list;
         list.push(Item::Rule(rule))?;
         Ok(Items {

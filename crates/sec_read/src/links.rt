@@ -1,18 +1,19 @@
-ghost use Rattle.std.specs.Prelude.{◌≡◌, ◌≤◌, IfErr, IfOk, IfSome, OnOk, decimal, true};
+ghost use Rattle.std.specs.Prelude.{◌≡◌, ◌≤◌, ◌∷◌, ◌++◌, [], IfErr, IfOk, IfSome, OnOk, Some, decimal, false, true, unwrap_or};
 ghost use Rattle.std.specs.Option.{option_copied};
 ghost use Rattle.sec_parts.specs.Results.{Gives};
 ghost use Rattle.waf_io.specs.Counts.{Rose};
 ghost use Rattle.sec_read.specs.Links.{acting, action_line, acts_of, always, first_link, further_link, link_of, linked, rule_line, rule_of, rule_with, stand_of, tested, with_rule};
 ghost use Rattle.sec_parts.specs.Operators.{operator_of};
+ghost use Rattle.sec_read.specs.Items.{has_id, is_full};
 ghost use Rattle.sec_read.specs.Places.{operator_file, rule_file};
-ghost use Rattle.sec_read.specs.Results.{Answers, IsFault, IsSpot, Tells, WhereUnread, is_unread};
+ghost use Rattle.sec_read.specs.Results.{Answers, Halts, IsFault, IsSpot, Tells, WhereUnread, is_unread};
 
 use crate::at::At;
 use crate::defaults::PhaseDefault;
 use crate::faults::{Cause, Halt};
 use crate::operators::read_operator_at;
 use crate::reading::{Reading, Unfinished};
-use sec_ast::{Link, Op, OpKind, Place, Rule, Target};
+use sec_ast::{Disrupt, Link, Op, OpKind, Place, Rule, Target};
 use sec_parts::{Acts, Operator, Refusal, Stand, read_actions, read_targets};
 use std::alloc::Global;
 use waf_io::Files;
@@ -59,6 +60,26 @@ fn stand_now(reading: &Reading) -> Stand
     }
 }
 
+// What a rule does that the transaction is told of, and where the rule stands.
+fn origin(
+    alloc: Global,
+    at: At<'_>,
+    acts: &Acts,
+    default: &PhaseDefault,
+) -> Result<(Disrupt, Place), NoMemory>
+    ensures disrupt { IfOk result (λ origin. origin.0 ≡ unwrap_or acts.now.disrupt default.now.disrupt) }
+    ensures file { IfOk result (λ origin. (origin.1).file ≡ at.entry.file.now) }
+    ensures line { IfOk result (λ origin. (origin.1).line ≡ at.entry.line) }
+{
+    let file = Bytes::copy(alloc, at.file)?;
+    let disrupt = default.disrupt_or(&acts.disrupt)?;
+    let place = Place {
+        file,
+        line: at.line,
+    };
+    Ok((disrupt, place))
+}
+
 // A rule by its first link.
 fn make_rule(
     alloc: Global,
@@ -70,10 +91,48 @@ fn make_rule(
 ) -> Result<Rule, NoMemory>
     ensures { IfOk result (λ rule. rule ≡ rule_of at.entry.file.now at.entry.line id condition acts default.now) }
 {
-    let disrupt = default.disrupt_or(acts.disrupt)?;
-    let file = Bytes::copy(alloc, at.file)?;
-    let mut links = Seq::new(alloc);
-    links.push(Link {
+    match origin(alloc, at, &acts, default) {
+        Ok((disrupt, place)) => {
+            let (rule, link) = parted(alloc, id, disrupt, place, condition, acts, default);
+            with_link(rule, link)
+        }
+        Err(no_memory) => {
+            drop(condition);
+            drop(acts);
+            Err(no_memory)
+        }
+    }
+}
+
+// A rule without its first link, and that.
+fn parted(
+    alloc: Global,
+    id: u32,
+    disrupt: Disrupt,
+    place: Place,
+    condition: Condition,
+    acts: Acts,
+    default: &PhaseDefault,
+) -> (Rule, Link)
+    ensures rule { result.0 ≡ record (rule_of place.file place.line id condition acts default.now)
+        { links = []; disrupt = disrupt } }
+    ensures link { result.1 ≡ link_of condition acts }
+{
+    let rule = Rule {
+        id,
+        phase: acts.phase.unwrap_or(DEFAULT_PHASE),
+        links: Seq::new(alloc),
+        disrupt,
+        status: acts.status.unwrap_or(default.status),
+        log: acts.log.unwrap_or(default.log),
+        msg: acts.msg,
+        logdata: acts.logdata,
+        tags: acts.tags,
+        skip: acts.skip,
+        skip_after: acts.skip_after,
+        place,
+    };
+    let link = Link {
         targets: condition.targets,
         always: condition.always,
         negated: condition.negated,
@@ -83,24 +142,21 @@ fn make_rule(
         multi: acts.multi,
         setvars: acts.setvars,
         ctls: acts.ctls,
-    })?;
-    Ok(Rule {
-        id,
-        phase: acts.phase.unwrap_or(DEFAULT_PHASE),
-        links,
-        disrupt,
-        status: acts.status.unwrap_or(default.status),
-        log: acts.log.unwrap_or(default.log),
-        msg: acts.msg,
-        logdata: acts.logdata,
-        tags: acts.tags,
-        skip: acts.skip,
-        skip_after: acts.skip_after,
-        place: Place {
-            file,
-            line: at.line,
-        },
-    })
+    };
+    (rule, link)
+}
+
+fn with_link(rule: Rule, link: Link) -> Result<Rule, NoMemory>
+    ensures { IfOk result (λ whole. whole ≡ record rule { links = rule.links ++ link ∷ [] }) }
+{
+    let mut rule = rule;
+    match rule.links.push(link) {
+        Ok(()) => Ok(rule),
+        Err(no_memory) => {
+            drop(rule);
+            Err(no_memory)
+        }
+    }
 }
 
 fn make_link(condition: Condition, acts: Acts) -> Link
@@ -130,10 +186,10 @@ fn add_rule(
     ensures { OnOk result (reading.new ≡ with_rule chain line rule reading.old) }
 {
     if chain {
-        reading.unfinished = Some(Unfinished { rule, line });
+        drop(reading.unfinished.replace(Unfinished { rule, line }));
         return Ok(());
     }
-    reading.unfinished = None;
+    drop(reading.unfinished.take());
     reading.items.push_rule(alloc, rule)
 }
 
@@ -143,6 +199,26 @@ fn at_id(alloc: Global, at: At<'_>, cause: Cause, id: u32) -> Halt
 {
     let mut buffer = itoa::Buffer::new();
     at.fault(alloc, cause, buffer.format(id).as_bytes())
+}
+
+// The identifier of a rule, which has to be a new one and to have room.
+fn first_id(alloc: Global, at: At<'_>, given: Option<u32>, reading: &Reading) -> Result<u32, Halt>
+    ensures given { IfOk result (λ id. given ≡ Some id) }
+    ensures new { IfOk result (λ id. has_id id reading.now.items ≡ false) }
+    ensures room { IfOk result (λ id. is_full reading.now.items ≡ false) }
+    ensures fault { IfErr result (λ halt. (condition : Condition) (acts : Acts)
+        → Halts halt (first_link at.entry.file.now at.entry.line condition given acts reading.now)) }
+{
+    let Some(id) = given else {
+        return Err(at.fault(alloc, Cause::NoId, b""));
+    };
+    if reading.items.has_id(id) {
+        return Err(at_id(alloc, at, Cause::DoubleId, id));
+    }
+    if reading.items.is_full() {
+        return Err(at_id(alloc, at, Cause::TooLong, id));
+    }
+    Ok(id)
 }
 
 fn add_first_link(
@@ -155,15 +231,14 @@ fn add_first_link(
     ensures { Answers (λ _. reading.new) result
         (first_link at.entry.file.now at.entry.line condition acts.id acts reading.old) }
 {
-    let Some(id) = acts.id else {
-        return Err(at.fault(alloc, Cause::NoId, b""));
+    let id = match first_id(alloc, at, acts.id, reading) {
+        Ok(id) => id,
+        Err(halt) => {
+            drop(condition);
+            drop(acts);
+            return Err(halt);
+        }
     };
-    if reading.items.has_id(id) {
-        return Err(at_id(alloc, at, Cause::DoubleId, id));
-    }
-    if reading.items.is_full() {
-        return Err(at_id(alloc, at, Cause::TooLong, id));
-    }
     let chain = acts.chain;
     let default = reading.defaults.of(acts.phase.unwrap_or(DEFAULT_PHASE));
     let rule = make_rule(alloc, at, id, condition, acts, default)?;
@@ -183,11 +258,13 @@ fn add_further_link(
         (further_link at.entry.file.now at.entry.line condition acts rule reading.old) }
 {
     if rule.links.len() >= LINK_LIMIT {
+        drop(rule);
+        drop(condition);
+        drop(acts);
         return Err(at.fault(alloc, Cause::TooLong, b""));
     }
     let chain = acts.chain;
-    let mut rule = rule;
-    rule.links.push(make_link(condition, acts))?;
+    let rule = with_link(rule, make_link(condition, acts))?;
     add_rule(alloc, chain, at.line, rule, reading)?;
     Ok(())
 }

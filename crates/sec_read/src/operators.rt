@@ -1,4 +1,4 @@
-ghost use Rattle.std.specs.Prelude.{◌≡◌, ◌≤◌, IfErr, IfSome, true};
+ghost use Rattle.std.specs.Prelude.{◌≡◌, ◌≤◌, IfErr, IfSome, Some, true};
 ghost use Rattle.sec_parts.specs.Results.{Gives};
 ghost use Rattle.waf_io.specs.Counts.{Rose};
 ghost use Rattle.sec_read.specs.Operators.{checked, filled, operator_at, with_words};
@@ -8,11 +8,11 @@ ghost use Rattle.sec_read.specs.Results.{Answers, IsSpot, Tells, WhereUnread, is
 
 use crate::addresses::find_no_address;
 use crate::at::At;
-use crate::faults::{Cause, Halt};
+use crate::faults::{Cause, Halt, bad_word};
 use crate::names::{has_wildcard_byte, name_beside};
 use crate::texts::{fetch, words_of_text};
 use sec_ast::{Op, OpKind};
-use sec_parts::{Bad, Flaw, Operator, Refusal, read_operator};
+use sec_parts::{Operator, Refusal, read_operator};
 use std::alloc::Global;
 use waf_io::Files;
 use waf_plain::{Bytes, Seq};
@@ -27,11 +27,9 @@ fn check_addresses(alloc: Global, operator: Operator) -> Result<Operator, Refusa
     match find_no_address(operator.op.words.as_slice()) {
         None => Ok(operator),
         Some(word) => {
-            let word = Bytes::copy(alloc, word.as_slice())?;
-            Err(Refusal::Bad(Bad {
-                flaw: Flaw::BadWord,
-                word,
-            }))
+            let refusal = bad_word(alloc, word.as_slice());
+            drop(operator);
+            Err(refusal)
         }
     }
 }
@@ -51,7 +49,32 @@ fn put_words(operator: Operator, words: Seq<Bytes>) -> Operator
     }
 }
 
-// The words of the file that an operator names, if it names one.
+// The words of the file that an operator names, and how many bytes of texts were read by then.
+fn read_words<F: Files>(
+    alloc: Global,
+    files: &mut F,
+    at: At<'_>,
+    word: &[u8],
+    total: u64,
+) -> Result<(Seq<Bytes>, u64), Halt>
+    ensures same { F.content files.new ≡ F.content files.old }
+    ensures later { F.faults files.old ≤ F.faults files.new }
+    ensures cause { IfErr result (λ halt. is_unread halt ≡ true → Rose (F.faults files.old) (F.faults files.new)) }
+    ensures place { IfErr result (λ halt. WhereUnread halt (IsSpot at.entry.file.now at.entry.line (Some word.now))) }
+    ensures told { IfSome (F.content files.old) (λ told. (operator : Operator)
+        → Tells (λ found. (with_words operator found.0, found.1)) result
+        (filled told at.entry.file.now at.entry.line (Some word.now) operator total)) }
+{
+    if has_wildcard_byte(word) {
+        return Err(at.fault(alloc, Cause::RefusedByName, word));
+    }
+    let name = name_beside(alloc, at.file, word)?;
+    let text = fetch(alloc, files, at, word, name.as_slice(), total)?;
+    let words = words_of_text(alloc, text.content.as_slice())?;
+    Ok((words, text.total))
+}
+
+// The operator with the words of the file that it names, if it names one.
 fn fill<F: Files>(
     alloc: Global,
     files: &mut F,
@@ -69,13 +92,13 @@ fn fill<F: Files>(
     let Some(word) = &operator.file else {
         return Ok((operator, total));
     };
-    if has_wildcard_byte(word.as_slice()) {
-        return Err(at.fault(alloc, Cause::RefusedByName, word.as_slice()));
+    match read_words(alloc, files, at, word.as_slice(), total) {
+        Ok((words, total)) => Ok((put_words(operator, words), total)),
+        Err(halt) => {
+            drop(operator);
+            Err(halt)
+        }
     }
-    let name = name_beside(alloc, at.file, word.as_slice())?;
-    let text = fetch(alloc, files, at, word.as_slice(), name.as_slice(), total)?;
-    let words = words_of_text(alloc, text.content.as_slice())?;
-    Ok((put_words(operator, words), text.total))
 }
 
 // The operator that a word states, with all its words, and how many bytes of texts were read by then.

@@ -3,8 +3,9 @@ ghost use Rattle.std.specs.List.{list_any};
 ghost use Rattle.sec_parts.specs.Results.{Gives};
 ghost use Rattle.sec_read.specs.Removals.{is_removed, kept, names_id, names_tag, no_removals, with_ids};
 
+use crate::faults::bad_word;
 use sec_ast::Item;
-use sec_parts::{Bad, Flaw, Refusal, read_id_range};
+use sec_parts::{Refusal, read_id_range};
 use std::alloc::Global;
 use waf_plain::{Bytes, Seq};
 
@@ -32,11 +33,8 @@ impl Removals {
         let mut removals = self;
         for word in words {
             let Some(range) = read_id_range(word.as_slice()) else {
-                let word = Bytes::copy(alloc, word.as_slice())?;
-                return Err(Refusal::Bad(Bad {
-                    flaw: Flaw::BadWord,
-                    word,
-                }));
+                drop(removals);
+                return Err(bad_word(alloc, word.as_slice()));
             };
             removals.ids.push(range)?;
         }

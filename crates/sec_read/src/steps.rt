@@ -1,8 +1,8 @@
-ghost use Rattle.std.specs.Prelude.{◌≡◌, ◌≤◌, IfErr, IfSome, true};
+ghost use Rattle.std.specs.Prelude.{◌≡◌, ◌≤◌, IfErr, IfSome, Some, true};
 ghost use Rattle.waf_io.specs.Counts.{Rose};
-ghost use Rattle.sec_read.specs.Places.{named_file};
+ghost use Rattle.sec_read.specs.Places.{directive_file, named_file};
 ghost use Rattle.sec_read.specs.Results.{Answers, IsSpot, Tells, WhereUnread, is_unread};
-ghost use Rattle.sec_read.specs.Steps.{apart, default_line, directive, ids_line, include_line, marker_line, on, setting_line, tag_line, with_defaults};
+ghost use Rattle.sec_read.specs.Steps.{apart, default_line, directive, ids_line, include_line, marker_line, obeyed, on, setting_line, tag_line, unless_open, with_defaults};
 
 use crate::at::At;
 use crate::defaults::PhaseDefault;
@@ -50,7 +50,10 @@ fn set_default(
         (with_defaults at.entry.file.now at.entry.line text.now acts.phase acts reading.old) }
 {
     match acts.phase {
-        None => Err(at.fault(alloc, Cause::BadWord, text)),
+        None => {
+            drop(acts);
+            Err(at.fault(alloc, Cause::BadWord, text))
+        }
         Some(phase) => {
             reading.defaults.set(phase, PhaseDefault::of(acts));
             Ok(())
@@ -198,6 +201,61 @@ fn read_apart(
     }
 }
 
+// The same, where no rule waits for its next link.
+fn read_unless_open(
+    alloc: Global,
+    at: At<'_>,
+    name: &[u8],
+    given: &[Bytes],
+    reading: &mut Reading,
+    directive: Directive,
+) -> Result<Option<Bytes>, Halt>
+    ensures { Answers (λ word. (word, reading.new)) result
+        (unless_open at.entry.file.now reading.old.unfinished
+        (apart at.entry.file.now at.entry.line name.now given.now reading.old directive)) }
+{
+    if let Some(line) = reading.open_line() {
+        let open = At {
+            file: at.file,
+            line,
+        };
+        return Err(open.fault(alloc, Cause::OpenChain, b""));
+    }
+    read_apart(alloc, at, name, given, reading, directive)
+}
+
+// What a directive does; the word of a file that it names.
+fn obey<F: Files>(
+    alloc: Global,
+    files: &mut F,
+    at: At<'_>,
+    name: &[u8],
+    given: &[Bytes],
+    reading: &mut Reading,
+    directive: Directive,
+) -> Result<Option<Bytes>, Halt>
+    ensures same { F.content files.new ≡ F.content files.old }
+    ensures later { F.faults files.old ≤ F.faults files.new }
+    ensures cause { IfErr result (λ halt. is_unread halt ≡ true → Rose (F.faults files.old) (F.faults files.new)) }
+    ensures place { IfErr result (λ halt.
+        WhereUnread halt (IsSpot at.entry.file.now at.entry.line (directive_file given.now (Some directive)))) }
+    ensures told { IfSome (F.content files.old) (λ told.
+        Tells (λ word. (word, reading.new)) result
+        (obeyed told at.entry.file.now at.entry.line name.now given.now reading.old directive)) }
+{
+    match directive {
+        Directive::SecRule => {
+            read_rule_line(alloc, files, at, name, given, reading)?;
+            Ok(None)
+        }
+        Directive::SecAction => {
+            read_action_line(alloc, at, name, given, reading)?;
+            Ok(None)
+        }
+        _ => read_unless_open(alloc, at, name, given, reading, directive),
+    }
+}
+
 // What the words of a line do; the word of a file that they name.
 #[tactic(auto, unfolding(crate::specs::Steps::directive))]
 pub fn read_directive<F: Files>(
@@ -225,23 +283,6 @@ pub fn read_directive<F: Files>(
     }
     match Directive::of(name) {
         None => Err(at.fault(alloc, Cause::UnknownDirective, name)),
-        Some(Directive::SecRule) => {
-            read_rule_line(alloc, files, at, name, given, reading)?;
-            Ok(None)
-        }
-        Some(Directive::SecAction) => {
-            read_action_line(alloc, at, name, given, reading)?;
-            Ok(None)
-        }
-        Some(directive) => {
-            if let Some(line) = reading.open_line() {
-                let open = At {
-                    file: at.file,
-                    line,
-                };
-                return Err(open.fault(alloc, Cause::OpenChain, b""));
-            }
-            read_apart(alloc, at, name, given, reading, directive)
-        }
+        Some(directive) => obey(alloc, files, at, name, given, reading, directive),
     }
 }

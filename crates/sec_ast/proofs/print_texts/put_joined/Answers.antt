@@ -1,9 +1,9 @@
 use Rattle.std.proofs.Common.{ℕ, List, arith, rules, ◌∙◌, ap, ◌++◌}
 use Rattle.sec_ast.proofs.Turns.{begun, join_turn, join_end}
-use Rattle.sec_ast.proofs.print_texts.joined.Goals as goal
+use Rattle.sec_ast.proofs.print_texts.put_joined.Goals as goal
 
 pub loop-piece-init : goal.loop-piece-init
-loop-piece-init c = begun c.args.byte c.new-out.result c.append.new.self c.in-Some.first.now c.in-Some.others.now c.args.pieces.now (search rules) c.new-out.ensures (search rules)
+loop-piece-init c = begun c.args.byte c.args.out.now c.append.new.self c.in-Some.first.now c.in-Some.others.now c.args.pieces.now (search rules) (search rules)
 
 pub loop-piece-preserved : goal.loop-piece-preserved
 loop-piece-preserved c =

@@ -1,6 +1,0 @@
-use Rattle.std.proofs.Common.{arith}
-use Rattle.sec_ast.proofs.Written.{line_end}
-use Rattle.sec_ast.proofs.print_texts.line_of.Goals as goal
-
-pub returns : goal.returns
-returns c = line_end c.args.name.now c.loop-word.out c.push.new.self c.args.words.now c.loop-word.word-index (omega arith) c.loop-word.invariant c.in_ok-push.ensures.ok
