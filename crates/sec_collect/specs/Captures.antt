@@ -1,5 +1,5 @@
 -- The texts that a rule captured.
-use Rattle.std.specs.Prelude.{ℕ, ◌+◌, List, [], ◌∷◌, take, decimal, Option, Some, None}
+use Rattle.std.specs.Prelude.{◌≡◌, ℕ, ◌+◌, List, [], ◌∷◌, take, decimal, Option, Some, None}
 use Rattle.web_parts.specs.declared.row.NameValue.{NameValue}
 use Rattle.sec_collect.specs.Row.{row}
 
@@ -12,3 +12,7 @@ numbered n (Some text ∷ texts) = row (decimal n) text ∷ numbered (n + 1) tex
 -- of the first ten groups
 abbrev pub captured_rows : List (Option (List ℕ)) → List NameValue
 captured_rows groups = numbered 0 (take 10 groups)
+
+-- those of some groups; of no group there are none
+abbrev pub AreCaptured : List NameValue → Type 0
+AreCaptured rows = (groups : List (Option (List ℕ))) × (rows ≡ captured_rows groups)

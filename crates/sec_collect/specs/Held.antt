@@ -1,6 +1,7 @@
 -- What the rows of a transaction are made from.
-use Rattle.std.specs.Prelude.{List, Option}
+use Rattle.std.specs.Prelude.{List, [], Option, None}
 use Rattle.sec_ast.specs.declared.settings.Processor.{Processor}
+use Rattle.sec_ast.specs.declared.settings.Processor.TheVariants.{Plain}
 use Rattle.web_parts.specs.declared.row.NameValue.{NameValue}
 use Rattle.web_parts.specs.declared.transaction.Request.{Request}
 use Rattle.sec_collect.specs.declared.parts.OpenedBody.{OpenedBody}
@@ -20,3 +21,15 @@ pub record Held : Type 0 where
   pub captured : List NameValue
   -- full names and values, in the order in which they matched
   pub matched : List NameValue
+
+-- a transaction of which only the request is known
+abbrev pub of_request : Request → Held
+of_request request = record {
+  request = request;
+  processor = Plain;
+  body = None;
+  response = None;
+  tx = [];
+  captured = [];
+  matched = [];
+}

@@ -39,12 +39,15 @@ abbrev pub removes : Var → List ℕ → Target → Bool
 removes var name t = same_variable t.var var && names t.select name
 
 -- whether a target selects rows of that name, and no other target takes them away
-abbrev pub keeps : {M : Type 0} → (M → List ℕ → Bool) → List (Target × Option M) → List Target → Target × Option M → List ℕ → Bool
+abbrev pub keeps : {M : Type 0} → (M → List ℕ → Bool) → List (Target × Option M) → List Target
+    → Target × Option M → List ℕ → Bool
 keeps meaning targets removed t name =
-    is_selected meaning t.0.select t.1 name && not (list_any (removes t.0.var name) removed || list_any (excludes meaning t.0.var name) targets)
+    is_selected meaning t.0.select t.1 name
+    && not (list_any (removes t.0.var name) removed || list_any (excludes meaning t.0.var name) targets)
 
 -- the rows that a target leaves
-abbrev pub left : {M : Type 0} → (M → List ℕ → Bool) → List (Target × Option M) → List Target → Held → Target × Option M → List NameValue
+abbrev pub left : {M : Type 0} → (M → List ℕ → Bool) → List (Target × Option M) → List Target → Held
+    → Target × Option M → List NameValue
 left meaning targets removed s t = filter (λ r. keeps meaning targets removed t r.name) (rows_of t.0.var s)
 
 abbrev pub value_row : Var → NameValue → RowRef
@@ -60,13 +63,15 @@ abbrev pub count_row : Target → ℕ → RowRef
 count_row t count = record { var = t.var; name = selector_text t.select; value = decimal count; counted = true }
 
 -- none for an excluding target, the number of its rows for a counting one, and for every other its rows
-abbrev pub values_of : {M : Type 0} → (M → List ℕ → Bool) → List (Target × Option M) → List Target → Held → Target × Option M → List RowRef
+abbrev pub values_of : {M : Type 0} → (M → List ℕ → Bool) → List (Target × Option M) → List Target → Held
+    → Target × Option M → List RowRef
 values_of meaning targets removed s t =
     if t.0.exclude then [] else
     if t.0.count then count_row t.0 (length (left meaning targets removed s t)) ∷ [] else
     map (value_row t.0.var) (left meaning targets removed s t)
 
-abbrev pub selection : {M : Type 0} → (M → List ℕ → Bool) → List (Target × Option M) → List Target → Held → List RowRef
+abbrev pub selection : {M : Type 0} → (M → List ℕ → Bool) → List (Target × Option M) → List Target → Held
+    → List RowRef
 selection meaning targets removed s = flat_map (values_of meaning targets removed s) targets
 
 -- a variable, and a name within it

@@ -14,4 +14,11 @@ without name tx = filter (λ r. not (is_named name r)) tx
 
 -- a put after which names and values would have more than 65536 bytes changes nothing
 abbrev pub put_within : List ℕ → List ℕ → List NameValue → List NameValue
-put_within name value tx = cond (nat_le (size_of (without name tx) + (length name + length value)) 65536) (put name value tx) tx
+put_within name value tx =
+    cond (nat_le (size_of (without name tx) + (length name + length value)) 65536) (put name value tx) tx
+
+-- what puts and deletions make, one after the other
+pub data ArePut : List NameValue → Type 0 where
+  none : ArePut []
+  by_put : (name value : List ℕ) (tx : List NameValue) → ArePut tx → ArePut (put_within name value tx)
+  by_deletion : (name : List ℕ) (tx : List NameValue) → ArePut tx → ArePut (without name tx)

@@ -1,19 +1,68 @@
 ghost use Rattle.std.specs.Prelude.{◌≡◌, ◌++◌, ◌+◌, ◌∷◌, [], take, IfOk, OnOk};
-ghost use Rattle.sec_collect.specs.Captures.{captured_rows, numbered};
+ghost use Rattle.sec_collect.specs.Captures.{AreCaptured, captured_rows, numbered};
 
 use crate::request::digits;
-use std::alloc::Global;
+use std::alloc::{AllocError, Global};
+use std::marker::Model;
 use waf_plain::{Bytes, NoMemory, Seq};
 use web_parts::NameValue;
 
 // How many groups are kept.
 const PLACES: usize = 10;
 
+/// The texts that were captured, as rows named by the numbers of their groups. They are those of one
+/// match, or none.
+#[derive(Debug, Drop)]
+pub struct Captures {
+    rows: Seq<NameValue>,
+}
+
+impl Model for Captures {
+    ghost use Rattle.std.specs.Prelude.{List};
+    ghost use Rattle.web_parts.specs.declared.row.NameValue.{NameValue};
+    ghost use Rattle.sec_collect.specs.Captures.{AreCaptured};
+
+    ghost Value = { List NameValue };
+
+    ghost view = { λ c. c.rows };
+
+    ghost invariant = { λ c. AreCaptured c.rows };
+}
+
+impl Captures {
+    /// No texts. It takes no memory.
+    pub fn new(alloc: Global) -> Captures
+        ensures { result ≡ [] }
+    {
+        Captures {
+            rows: Seq::new(alloc),
+        }
+    }
+
+    /// The texts as rows, in order.
+    pub fn as_slice(&self) -> &[NameValue]
+        ensures rows { result.now ≡ self.now }
+        ensures captured { AreCaptured self.now }
+    {
+        self.rows.as_slice()
+    }
+}
+
+impl Clone for Captures {
+    ghost is_clone = { λ a b. b ≡ a };
+
+    fn clone(&self) -> Result<Captures, AllocError> {
+        let rows = self.rows.clone()?;
+        Ok(Captures { rows })
+    }
+}
+
 /// The texts of the first ten groups, named by their numbers; a group that took no part has no row.
-pub fn captured_rows(alloc: Global, groups: &[Option<Bytes>]) -> Result<Seq<NameValue>, NoMemory>
-    ensures { IfOk result (λ rows. rows ≡ captured_rows groups.now) }
+pub fn captured_rows(alloc: Global, groups: &[Option<Bytes>]) -> Result<Captures, NoMemory>
+    ensures { IfOk result (λ captures. captures ≡ captured_rows groups.now) }
 {
-    numbered(alloc, first_places(groups))
+    let rows = numbered(alloc, first_places(groups))?;
+    Ok(Captures { rows })
 }
 
 fn first_places(groups: &[Option<Bytes>]) -> &[Option<Bytes>]

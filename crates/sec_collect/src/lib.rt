@@ -6,26 +6,31 @@
 //! `expansion` in `specs/Expansion.antt`, over the record `Held`.
 #![tactic(auto)]
 
+mod address_texts;
 mod body;
+mod body_rows;
 mod captures;
 mod expansion;
+mod kept_rows;
+mod line_texts;
 mod parts;
 mod pieces;
 mod request;
+mod request_rows;
+mod response_rows;
 mod row_ref;
 mod rows;
 mod selection;
 mod sizes;
-mod texts;
 mod variables;
 mod vars;
 
-pub use captures::captured_rows;
+pub use captures::{Captures, captured_rows};
 pub use expansion::expand;
 pub use parts::{AddedResponse, OpenedBody};
 pub use request::value_named;
 pub use row_ref::RowRef;
 pub use rows::Rows;
 pub use selection::{TargetQuery, select};
-pub use variables::{delete_variable, put_variable};
+pub use variables::{Variables, delete_variable, put_variable};
 pub use vars::Vars;

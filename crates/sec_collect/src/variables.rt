@@ -1,11 +1,12 @@
-ghost use Rattle.std.specs.Prelude.{◌≡◌, ◌++◌, ◌<◌, ◌≤◌, ◌+◌, List, ℕ, true, length, take, drop, map, slice_index_or, nat_le, IfOk, OnOk, OnErr};
+ghost use Rattle.std.specs.Prelude.{◌≡◌, ◌++◌, ◌<◌, ◌≤◌, ◌+◌, [], List, ℕ, true, length, take, drop, map, slice_index_or, nat_le, IfOk, OnOk, OnErr};
 ghost use Rattle.std.specs.Char.{to_ascii_lowercase};
 ghost use Rattle.web_parts.specs.declared.row.NameValue.{NameValue as TheRow};
 ghost use Rattle.sec_collect.specs.Row.{is_named, size_of};
-ghost use Rattle.sec_collect.specs.Variables.{put, put_within, without};
+ghost use Rattle.sec_collect.specs.Variables.{ArePut, put, put_within, without};
 
 use crate::sizes::{is_named, others_size};
-use std::alloc::Global;
+use std::alloc::{AllocError, Global};
+use std::marker::Model;
 use std::mem;
 use waf_plain::{Bytes, NoMemory, Seq};
 use web_parts::NameValue;
@@ -13,30 +14,77 @@ use web_parts::NameValue;
 // How many bytes the names and values of a transaction's variables may have together.
 const LIMIT: u128 = 65536;
 
+/// The variables of TX, in the order in which they were first put. Nothing but puts and deletions makes
+/// them.
+#[derive(Debug, Drop)]
+pub struct Variables {
+    rows: Seq<NameValue>,
+}
+
+impl Model for Variables {
+    ghost use Rattle.std.specs.Prelude.{List};
+    ghost use Rattle.web_parts.specs.declared.row.NameValue.{NameValue};
+    ghost use Rattle.sec_collect.specs.Variables.{ArePut};
+
+    ghost Value = { List NameValue };
+
+    ghost view = { λ v. v.rows };
+
+    ghost invariant = { λ v. ArePut v.rows };
+}
+
+impl Variables {
+    /// No variables. It takes no memory.
+    pub fn new(alloc: Global) -> Variables
+        ensures { result ≡ [] }
+    {
+        Variables {
+            rows: Seq::new(alloc),
+        }
+    }
+
+    /// The variables as rows, in order.
+    pub fn as_slice(&self) -> &[NameValue]
+        ensures rows { result.now ≡ self.now }
+        ensures put { ArePut self.now }
+    {
+        self.rows.as_slice()
+    }
+}
+
+impl Clone for Variables {
+    ghost is_clone = { λ a b. b ≡ a };
+
+    fn clone(&self) -> Result<Variables, AllocError> {
+        let rows = self.rows.clone()?;
+        Ok(Variables { rows })
+    }
+}
+
 /// Gives a variable of TX this value, in the place of its old one or at the end of the list. Names are
 /// found without regard to case, and kept in lower case. Where the names and values would then have
 /// more than 65536 bytes together, nothing changes.
 pub fn put_variable(
     alloc: Global,
-    tx: &mut Seq<NameValue>,
+    tx: &mut Variables,
     name: &[u8],
     value: &[u8],
 ) -> Result<(), NoMemory>
     ensures ok { OnOk result (tx.new ≡ put_within name.now value.now tx.old) }
     ensures err { OnErr result (tx.new ≡ tx.old) }
 {
-    if !fits(tx.as_slice(), name, value) {
+    if !fits(tx.rows.as_slice(), name, value) {
         return Ok(());
     }
-    put(alloc, tx, name, value)
+    put(alloc, &mut tx.rows, name, value)
 }
 
 /// Takes a variable of TX away, if it is there. It takes no memory.
-pub fn delete_variable(alloc: Global, tx: &mut Seq<NameValue>, name: &[u8])
+pub fn delete_variable(alloc: Global, tx: &mut Variables, name: &[u8])
     ensures { tx.new ≡ without name.now tx.old }
 {
-    let rows = mem::replace(tx, Seq::new(alloc));
-    *tx = without(rows, name);
+    let rows = mem::replace(&mut tx.rows, Seq::new(alloc));
+    tx.rows = without(rows, name);
 }
 
 fn without(rows: Seq<NameValue>, name: &[u8]) -> Seq<NameValue>
@@ -79,8 +127,10 @@ fn lowered(alloc: Global, name: &[u8]) -> Result<Bytes, NoMemory>
 // Where the variable stands, or the number of them.
 fn place_of(rows: &[NameValue], name: &[u8]) -> usize
     ensures within { result ≤ length rows.now }
-    ensures before { (value : List ℕ) → put name.now value rows.now ≡ take result rows.now ++ put name.now value (drop result rows.now) }
-    ensures there { (d : TheRow) → result < length rows.now → is_named name.now (slice_index_or rows.now result d) ≡ true }
+    ensures before { (value : List ℕ) → put name.now value rows.now
+        ≡ take result rows.now ++ put name.now value (drop result rows.now) }
+    ensures there { (d : TheRow) → result < length rows.now
+        → is_named name.now (slice_index_or rows.now result d) ≡ true }
 {
     for (place, row) in rows.iter().enumerate() {
         if is_named(name, row) {

@@ -1,8 +1,9 @@
-ghost use Rattle.std.specs.Prelude.{◌≡◌, ◌++◌, ◌∷◌, [], cond, None, Some, IfOk, OnOk, OnErr};
+ghost use Rattle.std.specs.Prelude.{◌≡◌, ◌++◌, ◌∷◌, [], cond, true, false, None, Some, IfOk, OnOk, OnErr};
 ghost use Rattle.std.specs.Option.{option_map};
-ghost use Rattle.sec_ast.specs.declared.settings.Processor.TheVariants.{Plain};
+ghost use Rattle.sec_ast.specs.Variable.{is_collection};
 ghost use Rattle.sec_collect.specs.Body.{chosen_processor, flag_text, is_longer, left_of, posted, processor_of};
-ghost use Rattle.sec_collect.specs.Held.{Held};
+ghost use Rattle.sec_collect.specs.Held.{of_request};
+ghost use Rattle.sec_collect.specs.Kept.{kept_rows, response_rows};
 ghost use Rattle.sec_collect.specs.Lent.{lent};
 ghost use Rattle.sec_collect.specs.Response.{response_body};
 ghost use Rattle.sec_collect.specs.Row.{optional, row, single, value_named};
@@ -10,17 +11,19 @@ ghost use Rattle.sec_collect.specs.Captures.{captured_rows};
 ghost use Rattle.sec_collect.specs.Rows.{last_matched, rows_of};
 ghost use Rattle.sec_collect.specs.Variables.{put_within, without};
 
-use crate::body::{flag_text, is_form, is_longer, left_of, posted, sizes_text};
+use crate::body::{flag_text, is_longer, left_of};
+use crate::body_rows::BodyRows;
 use crate::captures::captured_rows;
-use crate::request::{content_type, digits, length_text, protocol_text, value_named};
+use crate::kept_rows::KeptRows;
+use crate::request::value_named;
+use crate::response_rows::ResponseRows;
 use crate::rows::optional;
-use crate::texts::RequestTexts;
-use crate::{AddedResponse, OpenedBody, Rows, delete_variable, put_variable};
+use crate::{AddedResponse, Captures, OpenedBody, Rows, Variables, delete_variable, put_variable};
 use sec_ast::{Processor, Var};
 use std::alloc::Global;
 use std::marker::Model;
 use waf_plain::{Bytes, NoMemory, Seq};
-use web_parts::{NameValue, Request, Response, argument_rows, cookie_rows, header_rows};
+use web_parts::{NameValue, Request, Response};
 
 /// What the variables of a transaction are made from, with their rows kept ready: to lend the rows of a
 /// variable takes neither memory nor a pass over them.
@@ -30,23 +33,11 @@ pub struct Vars {
     processor: Processor,
     body: Option<OpenedBody>,
     response: Option<AddedResponse>,
-    tx: Seq<NameValue>,
-    captured: Seq<NameValue>,
+    tx: Variables,
+    captured: Captures,
     matched: Seq<NameValue>,
     // Made from these:
-    texts: RequestTexts,
-    query_arguments: Seq<NameValue>,
-    headers: Seq<NameValue>,
-    is_form: bool,
-    cookies: Seq<NameValue>,
-    posted: Seq<NameValue>,
-    body_length: Option<Bytes>,
-    arguments_size: Bytes,
-    status: Option<Bytes>,
-    response_protocol: Option<Bytes>,
-    response_length: Option<Bytes>,
-    response_type: Option<Bytes>,
-    response_headers: Seq<NameValue>,
+    kept: KeptRows,
 }
 
 impl Model for Vars {
@@ -64,93 +55,111 @@ impl Model for Vars {
 impl Vars {
     /// The variables of a request whose body is not opened yet.
     pub fn new(alloc: Global, request: Request) -> Result<Vars, NoMemory>
-        ensures { IfOk result (λ vars. vars ≡ record { request = request; processor = Plain; body = None; response = None; tx = []; captured = []; matched = [] }) }
+        ensures { IfOk result (λ vars. vars ≡ of_request request) }
     {
-        let headers = header_rows(alloc, request.headers.as_slice())?;
-        let texts = RequestTexts::new(alloc, &request, headers.as_slice())?;
-        let is_form = is_form(headers.as_slice());
-        let query_arguments = argument_rows(alloc, request.query.as_slice())?;
-        let cookies = cookie_rows(alloc, &headers)?;
-        let posted = Seq::new(alloc);
-        let arguments_size = sizes_text(alloc, &query_arguments, &posted)?;
-        Ok(Vars {
+        match KeptRows::new(alloc, &request) {
+            Ok(kept) => Ok(Vars::with_rows(alloc, request, kept)),
+            Err(NoMemory) => {
+                drop(request);
+                Err(NoMemory)
+            }
+        }
+    }
+
+    fn with_rows(alloc: Global, request: Request, kept: KeptRows) -> Vars
+        requires { kept ≡ kept_rows request None None }
+        ensures { result ≡ of_request request }
+    {
+        Vars {
             request,
             processor: Processor::Plain,
             body: None,
             response: None,
-            tx: Seq::new(alloc),
-            captured: Seq::new(alloc),
+            tx: Variables::new(alloc),
+            captured: Captures::new(alloc),
             matched: Seq::new(alloc),
-            texts,
-            query_arguments,
-            headers,
-            is_form,
-            cookies,
-            posted,
-            body_length: None,
-            arguments_size,
-            status: None,
-            response_protocol: None,
-            response_length: None,
-            response_type: None,
-            response_headers: Seq::new(alloc),
-        })
+            kept,
+        }
     }
 
     /// The rows of a variable, in order.
-    #[tactic(auto, unfolding(crate::specs::Rows::rows_of))]
     pub fn rows(&self, var: Var) -> Rows<'_>
         ensures { lent result ≡ rows_of var self.now }
     {
+        if var.is_collection() {
+            self.collection_rows(var)
+        } else {
+            self.single_rows(var)
+        }
+    }
+
+    #[tactic(auto, unfolding(crate::specs::Rows::rows_of))]
+    fn single_rows(&self, var: Var) -> Rows<'_>
+        requires { is_collection var ≡ false }
+        ensures { lent result ≡ rows_of var self.now }
+    {
         match var {
-            Var::RemoteAddr => Rows::One(self.texts.source.as_slice()),
-            Var::RemotePort => Rows::One(self.texts.source_port.as_slice()),
-            Var::ServerAddr => Rows::One(self.texts.destination.as_slice()),
-            Var::ServerPort => Rows::One(self.texts.destination_port.as_slice()),
-            Var::ServerName => Rows::One(self.texts.server_name.as_slice()),
+            Var::RemoteAddr => Rows::One(self.kept.request.addresses.source.as_slice()),
+            Var::RemotePort => Rows::One(self.kept.request.addresses.source_port.as_slice()),
+            Var::ServerAddr => Rows::One(self.kept.request.addresses.destination.as_slice()),
+            Var::ServerPort => Rows::One(self.kept.request.addresses.destination_port.as_slice()),
+            Var::ServerName => Rows::One(self.kept.request.server_name.as_slice()),
             Var::UniqueId => Rows::One(self.request.id.as_slice()),
             Var::RequestMethod => Rows::One(self.request.method.as_slice()),
-            Var::RequestUri => Rows::One(self.texts.uri.as_slice()),
-            Var::RequestUriRaw => Rows::One(self.texts.uri.as_slice()),
+            Var::RequestUri => Rows::One(self.kept.request.line.uri.as_slice()),
+            Var::RequestUriRaw => Rows::One(self.kept.request.line.uri.as_slice()),
             Var::RequestFilename => Rows::One(self.request.path.as_slice()),
-            Var::RequestBasename => Rows::One(self.texts.basename.as_slice()),
-            Var::RequestLine => Rows::One(self.texts.line.as_slice()),
-            Var::RequestProtocol => Rows::One(self.texts.protocol.as_slice()),
+            Var::RequestBasename => Rows::One(self.kept.request.line.basename.as_slice()),
+            Var::RequestLine => Rows::One(self.kept.request.line.line.as_slice()),
+            Var::RequestProtocol => Rows::One(self.kept.request.line.protocol.as_slice()),
             Var::QueryString => Rows::One(self.request.query.as_slice()),
             Var::RequestBody => self.body_rows(),
-            Var::RequestBodyLength => optional(&self.body_length),
+            Var::RequestBodyLength => optional(&self.kept.body.length),
             Var::ReqbodyProcessor => Rows::One(self.processor().name()),
             Var::ReqbodyError => Rows::One(b"0"),
             Var::MultipartStrictError => Rows::One(b"0"),
             Var::InboundDataError => Rows::One(self.inbound_error()),
-            Var::ArgsCombinedSize => Rows::One(self.arguments_size.as_slice()),
+            Var::ArgsCombinedSize => Rows::One(self.kept.body.arguments_size.as_slice()),
             Var::FilesCombinedSize => Rows::One(b"0"),
-            Var::ResponseStatus => optional(&self.status),
-            Var::ResponseProtocol => optional(&self.response_protocol),
+            Var::ResponseStatus => optional(&self.kept.response.status),
+            Var::ResponseProtocol => optional(&self.kept.response.protocol),
             Var::ResponseBody => self.response_body_rows(),
-            Var::ResponseContentLength => optional(&self.response_length),
-            Var::ResponseContentType => optional(&self.response_type),
+            Var::ResponseContentLength => optional(&self.kept.response.length),
+            Var::ResponseContentType => optional(&self.kept.response.media_type),
             Var::OutboundDataError => Rows::One(b"0"),
             Var::MatchedVar => self.matched_value_rows(),
             Var::MatchedVarName => self.matched_name_rows(),
-            Var::Args => Rows::Pairs(self.query_arguments.as_slice(), self.posted.as_slice()),
-            Var::ArgsGet => Rows::Pairs(&[], self.query_arguments.as_slice()),
-            Var::ArgsPost => Rows::Pairs(&[], self.posted.as_slice()),
-            Var::ArgsNames => Rows::Names(self.query_arguments.as_slice(), self.posted.as_slice()),
-            Var::ArgsGetNames => Rows::Names(&[], self.query_arguments.as_slice()),
-            Var::ArgsPostNames => Rows::Names(&[], self.posted.as_slice()),
-            Var::RequestHeaders => Rows::Pairs(&[], self.headers.as_slice()),
-            Var::RequestHeadersNames => Rows::Names(&[], self.headers.as_slice()),
-            Var::RequestCookies => Rows::Pairs(&[], self.cookies.as_slice()),
-            Var::RequestCookiesNames => Rows::Names(&[], self.cookies.as_slice()),
+            _ => unreachable!(),
+        }
+    }
+
+    #[tactic(auto, unfolding(crate::specs::Rows::rows_of))]
+    fn collection_rows(&self, var: Var) -> Rows<'_>
+        requires { is_collection var ≡ true }
+        ensures { lent result ≡ rows_of var self.now }
+    {
+        let query = self.kept.request.query_arguments.as_slice();
+        let posted = self.kept.body.posted.as_slice();
+        match var {
+            Var::Args => Rows::Pairs(query, posted),
+            Var::ArgsGet => Rows::Pairs(&[], query),
+            Var::ArgsPost => Rows::Pairs(&[], posted),
+            Var::ArgsNames => Rows::Names(query, posted),
+            Var::ArgsGetNames => Rows::Names(&[], query),
+            Var::ArgsPostNames => Rows::Names(&[], posted),
+            Var::RequestHeaders => Rows::Pairs(&[], self.kept.request.headers.as_slice()),
+            Var::RequestHeadersNames => Rows::Names(&[], self.kept.request.headers.as_slice()),
+            Var::RequestCookies => Rows::Pairs(&[], self.kept.request.cookies.as_slice()),
+            Var::RequestCookiesNames => Rows::Names(&[], self.kept.request.cookies.as_slice()),
             Var::Files => Rows::Nothing,
             Var::FilesNames => Rows::Nothing,
-            Var::ResponseHeaders => Rows::Pairs(&[], self.response_headers.as_slice()),
-            Var::ResponseHeadersNames => Rows::Names(&[], self.response_headers.as_slice()),
+            Var::ResponseHeaders => Rows::Pairs(&[], self.kept.response.headers.as_slice()),
+            Var::ResponseHeadersNames => Rows::Names(&[], self.kept.response.headers.as_slice()),
             Var::Tx => Rows::Pairs(self.captured.as_slice(), self.tx.as_slice()),
             Var::MatchedVars => Rows::Pairs(&[], self.matched.as_slice()),
             Var::MatchedVarsNames => Rows::Names(&[], self.matched.as_slice()),
             Var::Xml => Rows::Nothing,
+            _ => unreachable!(),
         }
     }
 
@@ -216,7 +225,7 @@ impl Vars {
         ensures { result ≡ chosen_processor self.now }
     {
         match self.processor {
-            Processor::Plain if self.is_form => Processor::Urlencoded,
+            Processor::Plain if self.kept.request.is_form => Processor::Urlencoded,
             processor => processor,
         }
     }
@@ -245,17 +254,15 @@ impl Vars {
         processor: Processor,
         limit: u64,
     ) -> Result<(), NoMemory>
-        ensures ok { OnOk result (self.new ≡ record self.old { body = Some (record { processor = processor; limit = limit }) }) }
+        ensures ok { OnOk result
+            (self.new ≡ record self.old { body = Some (record { processor = processor; limit = limit }) }) }
         ensures err { OnErr result (self.new ≡ self.old) }
     {
         let opened = OpenedBody { processor, limit };
-        let posted = posted(alloc, self.request.body.as_slice(), opened)?;
-        let body_length = length_text(alloc, left_of(self.request.body.as_slice(), opened))?;
-        let arguments_size = sizes_text(alloc, &self.query_arguments, &posted)?;
+        let arguments = &self.kept.request.query_arguments;
+        let rows = BodyRows::of_opened(alloc, &self.request, arguments, opened)?;
         self.body = Some(opened);
-        self.posted = posted;
-        self.body_length = Some(body_length);
-        self.arguments_size = arguments_size;
+        self.kept.body = rows;
         Ok(())
     }
 
@@ -266,24 +273,32 @@ impl Vars {
         response: Response,
         with_body: bool,
     ) -> Result<(), NoMemory>
-        ensures ok { OnOk result (self.new ≡ record self.old { response = Some (record { response = response; with_body = with_body }) }) }
+        ensures ok { OnOk result
+            (self.new ≡ record self.old { response = Some (record { response = response; with_body = with_body }) }) }
         ensures err { OnErr result (self.new ≡ self.old) }
     {
-        let status = digits(alloc, u64::from(response.status))?;
-        let response_protocol = protocol_text(alloc, response.version.as_slice())?;
-        let response_length = length_text(alloc, response.body.as_slice())?;
-        let response_headers = header_rows(alloc, response.headers.as_slice())?;
-        let response_type = Bytes::copy(alloc, content_type(response_headers.as_slice()))?;
-        self.status = Some(status);
-        self.response_protocol = Some(response_protocol);
-        self.response_length = Some(response_length);
-        self.response_type = Some(response_type);
-        self.response_headers = response_headers;
-        self.response = Some(AddedResponse {
+        let added = AddedResponse {
             response,
             with_body,
-        });
-        Ok(())
+        };
+        match ResponseRows::of_added(alloc, &added) {
+            Ok(rows) => {
+                self.set_response(added, rows);
+                Ok(())
+            }
+            Err(NoMemory) => {
+                drop(added);
+                Err(NoMemory)
+            }
+        }
+    }
+
+    fn set_response(&mut self, added: AddedResponse, rows: ResponseRows)
+        requires { rows ≡ response_rows (Some added) }
+        ensures { self.new ≡ record self.old { response = Some added } }
+    {
+        self.response = Some(added);
+        self.kept.response = rows;
     }
 
     /// The value of a variable of TX, empty where there is none.
@@ -318,14 +333,8 @@ impl Vars {
         Ok(())
     }
 
-    /// Puts other lists in the places of the variables of TX, the captured texts and the matched values,
-    /// as they were taken from another value of this type.
-    pub fn set_lists(
-        &mut self,
-        tx: Seq<NameValue>,
-        captured: Seq<NameValue>,
-        matched: Seq<NameValue>,
-    )
+    /// Puts others in the places of the variables of TX, the captured texts and the matched values.
+    pub fn set_lists(&mut self, tx: Variables, captured: Captures, matched: Seq<NameValue>)
         ensures { self.new ≡ record self.old { tx = tx; captured = captured; matched = matched } }
     {
         self.tx = tx;
@@ -342,7 +351,8 @@ impl Vars {
 
     /// Adds a matched value under the full name of its row.
     pub fn add_matched(&mut self, full_name: Bytes, value: Bytes) -> Result<(), NoMemory>
-        ensures ok { OnOk result (self.new ≡ record self.old { matched = self.old.matched ++ row full_name value ∷ [] }) }
+        ensures ok { OnOk result
+            (self.new ≡ record self.old { matched = self.old.matched ++ row full_name value ∷ [] }) }
         ensures err { OnErr result (self.new ≡ self.old) }
     {
         self.matched.push(NameValue {

@@ -7,8 +7,8 @@ use Rattle.sec_ast.specs.declared.rule.Rule.{Rule}
 use Rattle.sec_eval.specs.Counting.{rules_in}
 use Rattle.sec_meaning.specs.Effect.{effect}
 use Rattle.sec_meaning.specs.Phase.{Run, at_marker, at_rule, follow, is_off, is_rejected, is_removed, look, walk, with_body}
-use Rattle.sec_meaning.specs.declared.state.Flow.{Flow}
-use Rattle.sec_meaning.specs.declared.state.Flow.TheVariants.{Next, Skip, SkipTo, EndPhase, EndTo3, EndTo5, Interrupt}
+use Rattle.sec_meaning.specs.declared.state.RuleFlow.{RuleFlow}
+use Rattle.sec_meaning.specs.declared.state.RuleFlow.TheVariants.{Next, Skip, SkipTo, EndPhase, EndTo3, EndTo5, Interrupt}
 use Rattle.sec_meaning.specs.declared.state.Passing.{Passing}
 use Rattle.sec_meaning.specs.declared.state.Passing.TheVariants.{Looking, Skipping, Until}
 use Rattle.sec_meaning.specs.declared.state.PlainState.{PlainState}
@@ -21,7 +21,7 @@ counted : (b : Bool) (x y : Run) (item : Item) (left : List Item) → x.looked �
 counted true x y item left p q = omega (arith, p)
 counted false x y item left p q = q
 
-follow_most : (f : Flow) (s : PlainState) (rest : Passing → PlainState → Run) (n : ℕ) → ((w : Passing) (t : PlainState) → (rest w t).looked ≤ n) → (follow s f rest).looked ≤ n
+follow_most : (f : RuleFlow) (s : PlainState) (rest : Passing → PlainState → Run) (n : ℕ) → ((w : Passing) (t : PlainState) → (rest w t).looked ≤ n) → (follow s f rest).looked ≤ n
 follow_most Next s rest n h = h Looking s
 follow_most (Skip k) s rest n h = h (Skipping k) s
 follow_most (SkipTo l) s rest n h = h (Until l) s

@@ -1,4 +1,4 @@
--- A phase that passes items over goes on behind them.
+-- A phase that passes items over goes on after them.
 use Rattle.std.proofs.Common.{◌≡◌, ℕ, zero, suc, Bool, true, false, cond, List, [], ◌∷◌, refl, ap, nat_eq}
 use Rattle.std.specs.Str.{bytes_eq}
 use Rattle.sec_ast.specs.declared.listing.Item.{Item}

@@ -31,7 +31,7 @@ again f (t ∷ ts) v none =
     let w = transformed t v in
     changed (bytes_eq w v) f w v (changes ts w) (chained ts w) (bytes_eq-Decides w v).0 none (λ e. again f ts w e)
 
--- the value behind the whole chain was tested before, so a further test of it finds nothing new
+-- the value after the whole chain was tested before, so a further test of it finds nothing new
 pub last_again : (f : List ℕ → Option Groups) (ts : List Transform) (v : List ℕ) → first_hit f ((v ∷ changes ts v) ++ chained ts v ∷ []) ≡ first_hit f (v ∷ changes ts v)
 last_again f ts v = turned (f v) v _ _ (λ e. again f ts v e)
 

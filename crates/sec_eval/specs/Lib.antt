@@ -1,4 +1,3 @@
-pub mod Text
 pub mod Search
 pub mod Matching
 pub mod Seen

@@ -3,7 +3,7 @@ use Rattle.std.specs.Prelude.{◌≡◌, ℕ, List, Option, Some, None}
 use Rattle.sec_ast.specs.declared.transform.Transform.{Transform}
 use Rattle.sec_eval.specs.declared.search.Search.{Search}
 use Rattle.sec_eval.specs.declared.search.Search.TheVariants.{Found, Missed}
-use Rattle.sec_eval.specs.Text.{text_of}
+use Rattle.sec_meaning.specs.Text.{text_of}
 use Rattle.sec_meaning.specs.declared.state.Found as founds
 use Rattle.sec_meaning.specs.Values.{Groups, changes, first_hit, found_in}
 use Rattle.sec_transforms.specs.Apply.{chained}

@@ -4,23 +4,23 @@ ghost use Rattle.sec_collect.specs.Lent.{lent};
 ghost use Rattle.sec_collect.specs.Selection.{count_row, full_name, keeps, selection, value_row, values_of};
 ghost use Rattle.sec_compile.specs.Links.{built_link};
 ghost use Rattle.sec_eval.specs.Matching.{matched_of, matches_in, row_of};
-ghost use Rattle.sec_eval.specs.Text.{text_of};
+ghost use Rattle.sec_meaning.specs.Text.{text_of};
 ghost use Rattle.sec_meaning.specs.Values.{match_of, matched_as};
 ghost use Rattle.sec_ops.specs.Selectors.{is_matched};
 
 use crate::search::{Search, find_hit};
-use crate::text::{Text, expanded};
+use crate::text::expanded;
 use sec_ast::{Link, Target, Var};
 use sec_collect::{RowRef, Rows, TargetQuery, Vars};
 use sec_compile::BuiltLink;
-use sec_meaning::Matched;
+use sec_meaning::{Matched, Text};
 use sec_ops::{Built, NamePattern};
 use std::alloc::Global;
 use waf_plain::{Bytes, NoMemory, Seq};
 
-/// A value that a link looks at, lent.
+/// A value that a link looks at, borrowed.
 #[derive(Clone, Copy, Debug)]
-pub(crate) struct LentRow<'a> {
+pub(crate) struct BorrowedRow<'a> {
     pub var: Var,
     pub name: &'a [u8],
     pub value: &'a [u8],
@@ -35,7 +35,7 @@ pub(crate) struct Question<'a> {
     pub argument: &'a [u8],
 }
 
-/// The rows that a link matches, in order. Rows are lent, and only those that match are copied.
+/// The rows that a link matches, in order. Rows are borrowed, and only those that match are copied.
 pub(crate) fn matches<'a>(
     alloc: Global,
     vars: &Vars,
@@ -72,11 +72,11 @@ fn matches_of(
     let mut out = Seq::new(alloc);
     let mut rest = query.patterns;
     for target in query.targets {
-        let Some((pattern, behind)) = rest.split_first() else {
+        let Some((pattern, following)) = rest.split_first() else {
             return Ok(out);
         };
         add_matches(alloc, vars, question, query, target, pattern, &mut out)?;
-        rest = behind;
+        rest = following;
     }
     Ok(out)
 }
@@ -119,7 +119,7 @@ fn add_count(
     ensures { OnOk result (out.new ≡ out.old ++ matched_of question.now (count_row target.now count ∷ [])) }
 {
     let counted = RowRef::of_count(alloc, target, count)?;
-    let row = LentRow {
+    let row = BorrowedRow {
         var: counted.var,
         name: counted.name.as_slice(),
         value: counted.value.as_slice(),
@@ -145,9 +145,9 @@ fn add_rows(
         (lent rows.entry)))) }
 {
     let mut rest = rows;
-    while let Some((name, value, behind)) = rest.split_first() {
+    while let Some((name, value, following)) = rest.split_first() {
         if query.keeps(target, pattern, name)? {
-            let row = LentRow {
+            let row = BorrowedRow {
                 var: target.var,
                 name,
                 value,
@@ -155,7 +155,7 @@ fn add_rows(
             };
             add_match(alloc, question, row, out)?;
         }
-        rest = behind;
+        rest = following;
     }
     Ok(())
 }
@@ -164,7 +164,7 @@ fn add_rows(
 fn add_match(
     alloc: Global,
     question: &Question<'_>,
-    row: LentRow<'_>,
+    row: BorrowedRow<'_>,
     out: &mut Seq<Matched>,
 ) -> Result<(), NoMemory>
     requires { question.now.op.now ≡ question.now.link.now.op }
@@ -179,10 +179,11 @@ fn add_match(
 fn match_of(
     alloc: Global,
     question: &Question<'_>,
-    row: LentRow<'_>,
+    row: BorrowedRow<'_>,
 ) -> Result<Option<Matched>, NoMemory>
     requires { question.now.op.now ≡ question.now.link.now.op }
-    ensures { IfOk result (λ matched. matched ≡ match_of question.now.link.now question.now.argument.now (row_of row.entry)) }
+    ensures { IfOk result (λ matched. matched
+        ≡ match_of question.now.link.now question.now.argument.now (row_of row.entry)) }
 {
     let link = question.link;
     match find_hit(alloc, link, question.op, question.argument, row.value)? {
@@ -203,7 +204,7 @@ fn match_of(
 
 fn matched_as(
     alloc: Global,
-    row: LentRow<'_>,
+    row: BorrowedRow<'_>,
     value: Text<'_>,
     groups: Seq<Option<Bytes>>,
 ) -> Result<Matched, NoMemory>
@@ -218,7 +219,7 @@ fn matched_as(
     })
 }
 
-fn full_name(alloc: Global, row: LentRow<'_>) -> Result<Bytes, NoMemory>
+fn full_name(alloc: Global, row: BorrowedRow<'_>) -> Result<Bytes, NoMemory>
     ensures { IfOk result (λ name. name ≡ full_name (row_of row.entry)) }
 {
     let name = Bytes::copy(alloc, row.name)?;

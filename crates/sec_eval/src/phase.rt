@@ -11,7 +11,7 @@ use crate::State;
 use crate::effect::effect;
 use sec_ast::{Item, Listing, Rule, Verdict};
 use sec_compile::{BuiltLink, Ruleset};
-use sec_meaning::{After, Flow as RuleFlow, Passing, at_marker, is_off, is_on, too_large};
+use sec_meaning::{After, Passing, RuleFlow, Transaction, at_marker, is_off, is_on, too_large};
 use std::alloc::Global;
 use std::sync::ledger::Ledger;
 use waf_plain::{NoMemory, Seq, Steps};
@@ -158,7 +158,7 @@ fn walk<L: Ledger>(
     let mut passing = Passing::Looking;
     let mut rest = built;
     for item in items {
-        let Some((links, behind)) = rest.split_first() else {
+        let Some((links, following)) = rest.split_first() else {
             unreachable!()
         };
         match at_item(alloc, number, item, links, passing, state, steps)? {
@@ -166,7 +166,7 @@ fn walk<L: Ledger>(
             After::End(Some(verdict)) => return Ok(Flow::Interrupted(verdict)),
             After::End(None) => return Ok(Flow::Goes),
         }
-        rest = behind;
+        rest = following;
     }
     Ok(Flow::Goes)
 }

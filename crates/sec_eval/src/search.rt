@@ -1,13 +1,14 @@
 ghost use Rattle.std.specs.Prelude.{◌≡◌, ◌∷◌, [], IfOk, List, ℕ};
 ghost use Rattle.sec_ast.specs.declared.transform.Transform.{Transform as TheTransform};
 ghost use Rattle.sec_eval.specs.Search.{IsMissed, LeadsTo, found_by, found_then};
-ghost use Rattle.sec_eval.specs.Text.{text_of};
+ghost use Rattle.sec_meaning.specs.Text.{text_of};
 ghost use Rattle.sec_meaning.specs.Values.{changes, first_hit, tested};
 ghost use Rattle.sec_ops.specs.Hits.{hit};
 ghost use Rattle.sec_transforms.specs.Apply.{chained};
 
-use crate::text::{Text, chained};
+use crate::text::chained;
 use sec_ast::{Link, Transform};
+use sec_meaning::Text;
 use sec_ops::{Built, Hit, holds};
 use sec_transforms::apply;
 use std::alloc::Global;
@@ -21,7 +22,7 @@ pub(crate) enum Search<'a> {
         value: Text<'a>,
         groups: Seq<Option<Bytes>>,
     },
-    /// It found nothing; the value behind the transformations.
+    /// It found nothing; the value after the transformations.
     Missed(Text<'a>),
 }
 
@@ -68,7 +69,7 @@ fn search_each<'a>(
         ≡ first_hit (hit built.now argument.now) (value.entry.now ∷ changes transforms.now value.entry.now)) }
     ensures missed { IfOk result (λ s. IsMissed (chained transforms.now value.entry.now) s) }
 {
-    let mut search = search_in(built, argument, Text::Lent(value))?;
+    let mut search = search_in(built, argument, Text::Borrowed(value))?;
     for transform in transforms.as_slice() {
         search = search_on(alloc, *transform, built, argument, search)?;
     }
@@ -96,7 +97,7 @@ fn search_on<'a>(
             if next.as_slice() == value.as_slice() {
                 return Ok(Search::Missed(value));
             }
-            search_in(built, argument, Text::Made(next))
+            search_in(built, argument, Text::Owned(next))
         }
     }
 }

@@ -1,17 +1,13 @@
-ghost use Rattle.std.specs.Prelude.{◌≡◌, ◌++◌, ◌∷◌, [], cond, Some, IfOk, OnOk};
-ghost use Rattle.sec_collect.specs.Body.{chosen_processor, is_longer};
-ghost use Rattle.sec_collect.specs.Captures.{captured_rows};
-ghost use Rattle.sec_collect.specs.Row.{row, value_named};
-ghost use Rattle.sec_collect.specs.Variables.{put_within, without};
+ghost use Rattle.std.specs.Prelude.{◌≡◌, [], Some, IfOk, OnOk};
 ghost use Rattle.sec_meaning.specs.Judgement.{answered, start};
-ghost use Rattle.sec_meaning.specs.Links.{control};
 ghost use Rattle.sec_meaning.specs.Phase.{is_removed, opened};
-ghost use Rattle.sec_meaning.specs.State.{held};
+ghost use Rattle.sec_meaning.specs.State.{view_of};
 
-use sec_ast::{Ctl, Engine, Listing, LogLine, Rule, Verdict};
+use crate::text::expanded;
+use sec_ast::{Ctl, Engine, Listing, LogLine, Macro, Rule, Verdict};
 use sec_collect::Vars;
 use sec_compile::Ruleset;
-use sec_meaning::{Removed, is_named_by};
+use sec_meaning::{Removed, Text, Transaction, is_named_by};
 use std::alloc::Global;
 use std::marker::Model;
 use std::mem;
@@ -69,7 +65,7 @@ impl State {
 
     /// What rows are made from.
     pub fn vars(&self) -> &Vars
-        ensures { result.now ≡ held self.now }
+        ensures { result.now ≡ view_of self.now }
     {
         &self.vars
     }
@@ -87,12 +83,6 @@ impl State {
         ensures left { self.new ≡ record self.old { lines = [] } }
     {
         mem::replace(&mut self.lines, Seq::new(alloc))
-    }
-
-    pub(crate) fn engine(&self) -> Engine
-        ensures { result ≡ self.now.engine }
-    {
-        self.engine
     }
 
     pub(crate) fn next_phase(&self) -> u8
@@ -122,12 +112,6 @@ impl State {
         self.verdict = Some(verdict);
     }
 
-    pub(crate) fn add_line(&mut self, line: LogLine) -> Result<(), NoMemory>
-        ensures { OnOk result (self.new ≡ record self.old { lines = self.old.lines ++ line ∷ [] }) }
-    {
-        self.lines.push(line)
-    }
-
     /// Opens the request's body where it is read, before the rules of phase 2.
     pub(crate) fn open_body(&mut self, alloc: Global, listing: &Listing) -> Result<(), NoMemory>
         ensures { OnOk result (self.new ≡ opened listing.now self.old) }
@@ -138,50 +122,48 @@ impl State {
         }
         Ok(())
     }
+}
 
-    pub(crate) fn set_tx(
-        &mut self,
-        alloc: Global,
-        name: &[u8],
-        value: &[u8],
-    ) -> Result<(), NoMemory>
-        ensures { OnOk result (self.new ≡ record self.old { tx = put_within name.now value.now self.old.tx }) }
-    {
+impl Transaction for State {
+    ghost seen = { λ s. s };
+
+    fn expanded<'a>(&self, alloc: Global, text: &'a Macro) -> Result<Text<'a>, NoMemory> {
+        expanded(alloc, self.vars(), text)
+    }
+
+    fn engine(&self) -> Engine {
+        self.engine
+    }
+
+    fn tx_value(&self, name: &[u8]) -> &[u8] {
+        self.vars.tx_value(name)
+    }
+
+    fn set_tx(&mut self, alloc: Global, name: &[u8], value: &[u8]) -> Result<(), NoMemory> {
         self.vars.set_tx(alloc, name, value)
     }
 
-    pub(crate) fn delete_tx(&mut self, alloc: Global, name: &[u8])
-        ensures { self.new ≡ record self.old { tx = without name.now self.old.tx } }
-    {
+    fn delete_tx(&mut self, alloc: Global, name: &[u8]) {
         self.vars.delete_tx(alloc, name);
     }
 
-    pub(crate) fn capture(
-        &mut self,
-        alloc: Global,
-        groups: &Seq<Option<Bytes>>,
-    ) -> Result<(), NoMemory>
-        ensures { OnOk result (self.new ≡ record self.old { captured = captured_rows groups.now }) }
-    {
+    fn capture(&mut self, alloc: Global, groups: &Seq<Option<Bytes>>) -> Result<(), NoMemory> {
         self.vars.capture(alloc, groups)
     }
 
-    pub(crate) fn forget_matched(&mut self, alloc: Global)
-        ensures { self.new ≡ record self.old { matched = [] } }
-    {
+    fn forget_matched(&mut self, alloc: Global) {
         self.vars.forget_matched(alloc);
     }
 
-    pub(crate) fn add_matched(&mut self, full_name: Bytes, value: Bytes) -> Result<(), NoMemory>
-        ensures { OnOk result (self.new ≡ record self.old { matched = self.old.matched ++ row full_name value ∷ [] }) }
-    {
+    fn add_matched(&mut self, full_name: Bytes, value: Bytes) -> Result<(), NoMemory> {
         self.vars.add_matched(full_name, value)
     }
 
-    /// Does what a `ctl` says.
-    pub(crate) fn control(&mut self, ctl: &Ctl) -> Result<(), NoMemory>
-        ensures { OnOk result (self.new ≡ control self.old ctl.now) }
-    {
+    fn add_line(&mut self, line: LogLine) -> Result<(), NoMemory> {
+        self.lines.push(line)
+    }
+
+    fn control(&mut self, ctl: &Ctl) -> Result<(), NoMemory> {
         match ctl {
             Ctl::Engine(engine) => {
                 self.engine = *engine;

@@ -13,7 +13,7 @@ use Rattle.sec_meaning.specs.Phase.{Run, phase}
 abbrev pub run_of : PlainState → Option Verdict → Run
 run_of s verdict = record { state = s; verdict = verdict; looked = 0 }
 
--- how many rules were looked at plays no part behind the request
+-- how many rules were looked at plays no part after the request
 pub uncounted : (listing : Listing) (response : Option Response) (one : Run) → response_part listing response (run_of one.state one.verdict) ≡ response_part listing response one
 uncounted listing None one = refl
 uncounted listing (Some response) one = refl

@@ -7,20 +7,23 @@ use Rattle.sec_ast.specs.declared.settings.Engine.{Engine}
 use Rattle.sec_ast.specs.declared.settings.Engine.TheVariants as engines
 use Rattle.sec_ast.specs.declared.verdict.VerdictAct.{VerdictAct}
 use Rattle.sec_ast.specs.declared.verdict.VerdictAct.TheVariants as acts
+use Rattle.sec_ast.specs.declared.verdict.LogLine.{LogLine}
 use Rattle.sec_collect.specs.Expansion.{expansion}
-use Rattle.sec_meaning.specs.declared.state.Flow.{Flow}
-use Rattle.sec_meaning.specs.declared.state.Flow.TheVariants.{Next, Skip, SkipTo, EndPhase, EndTo3, EndTo5, Interrupt}
+use Rattle.sec_collect.specs.Held.{Held}
+use Rattle.sec_meaning.specs.declared.state.RuleFlow.{RuleFlow}
+use Rattle.sec_meaning.specs.declared.state.RuleFlow.TheVariants.{Next, Skip, SkipTo, EndPhase, EndTo3, EndTo5, Interrupt}
 use Rattle.sec_meaning.specs.declared.state.PlainState.{PlainState}
-use Rattle.sec_meaning.specs.State.{held}
+use Rattle.sec_meaning.specs.State.{view_of}
 use Rattle.sec_meaning.specs.Links.{after_links}
 
+abbrev pub line_of : Rule → Held → LogLine
+line_of r s = record { rule = r.id; msg = expansion s r.msg; detail = expansion s r.logdata }
+
 abbrev pub logged : Rule → PlainState → PlainState
-logged r s =
-    if r.log then record s { lines = s.lines ++ record { rule = r.id; msg = expansion (held s) r.msg; detail = expansion (held s) r.logdata } ∷ [] }
-    else s
+logged r s = if r.log then record s { lines = s.lines ++ line_of r (view_of s) ∷ [] } else s
 
 -- where a rule goes on that does not disrupt
-abbrev pub skip_of : Option (List ℕ) → ℕ → Flow
+abbrev pub skip_of : Option (List ℕ) → ℕ → RuleFlow
 skip_of (Some label) n = SkipTo label
 skip_of None n = if nat_eq n 0 then Next else Skip n
 
@@ -31,17 +34,20 @@ denial_status status = if nat_eq status 0 then 403 else status
 -- 302 where its status is none of a redirection (RFC 9110, 15.4)
 abbrev pub redirect_status : ℕ → ℕ
 redirect_status status =
-    if nat_eq status 301 || nat_eq status 302 || nat_eq status 303 || nat_eq status 307 || nat_eq status 308 then status else 302
+    if nat_eq status 301 || nat_eq status 302 || nat_eq status 303 || nat_eq status 307 || nat_eq status 308
+    then status
+    else 302
 
-abbrev pub interruption : Rule → VerdictAct → ℕ → Flow
+abbrev pub interruption : Rule → VerdictAct → ℕ → RuleFlow
 interruption r act status = Interrupt (record { rule = r.id; act = act; status = status })
 
 -- `allow:request` ends the phases of the request, or the phase of a response
-abbrev pub disruption : Disrupt → Rule → PlainState → Flow
+abbrev pub disruption : Disrupt → Rule → PlainState → RuleFlow
 disruption disrupts.Pass r s = skip_of r.skip_after r.skip
 disruption disrupts.Deny r s = interruption r acts.Deny (denial_status r.status)
 disruption disrupts.Drop r s = interruption r acts.Drop (denial_status r.status)
-disruption (disrupts.Redirect location) r s = interruption r (acts.Redirect (expansion (held s) location)) (redirect_status r.status)
+disruption (disrupts.Redirect location) r s =
+    interruption r (acts.Redirect (expansion (view_of s) location)) (redirect_status r.status)
 disruption disrupts.Allow r s = EndTo5
 disruption disrupts.AllowPhase r s = EndPhase
 disruption disrupts.AllowRequest r s = if nat_le r.phase 2 then EndTo3 else EndPhase
@@ -52,12 +58,12 @@ is_on engines.Off = false
 is_on engines.DetectionOnly = false
 
 -- a disruptive action acts where the engine is on, and not in phase 5
-abbrev pub flow_of : Rule → PlainState → Flow
+abbrev pub flow_of : Rule → PlainState → RuleFlow
 flow_of r s = if is_on s.engine && nat_le r.phase 4 then disruption r.disrupt r s else skip_of r.skip_after r.skip
 
-abbrev pub matched_effect : Rule → Bool × PlainState → PlainState × Flow
+abbrev pub matched_effect : Rule → Bool × PlainState → PlainState × RuleFlow
 matched_effect r x = if x.0 then (logged r x.1, flow_of r (logged r x.1)) else (x.1, Next)
 
 -- the state after a rule, and where to go on. It logs and acts where each of its links holds
-abbrev pub effect : Rule → PlainState → PlainState × Flow
+abbrev pub effect : Rule → PlainState → PlainState × RuleFlow
 effect r s = matched_effect r (after_links r.links s)

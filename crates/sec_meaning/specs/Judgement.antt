@@ -38,7 +38,8 @@ unless_denied None denied next = next
 
 -- two phases, where the first of them does not interrupt
 abbrev pub two_phases : Listing → ℕ → ℕ → PlainState → Run
-two_phases listing p q s = unless_denied (phase listing p s).verdict (phase listing p s) (phase listing q (phase listing p s).state)
+two_phases listing p q s =
+    unless_denied (phase listing p s).verdict (phase listing p s) (phase listing q (phase listing p s).state)
 
 -- phases 1 and 2 over the request
 abbrev pub request_part : Listing → Request → Run
@@ -47,7 +48,8 @@ request_part listing request = two_phases listing 1 2 (start listing request)
 -- phases 3 and 4, where there is a response and the request was not interrupted
 abbrev pub response_part : Listing → Option Response → Run → Run
 response_part listing None one = ended one.state
-response_part listing (Some response) one = unless_denied one.verdict (ended one.state) (two_phases listing 3 4 (answered response one.state))
+response_part listing (Some response) one =
+    unless_denied one.verdict (ended one.state) (two_phases listing 3 4 (answered response one.state))
 
 -- the state after phase 5, which runs last in every case
 abbrev pub last_part : Listing → Run → PlainState

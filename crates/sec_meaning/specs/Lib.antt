@@ -1,4 +1,5 @@
 pub mod State
+pub mod Text
 pub mod Values
 pub mod Links
 pub mod Effect

@@ -19,7 +19,7 @@ use Rattle.sec_ops.specs.Number.{number}
 use Rattle.sec_meaning.specs.declared.state.Matched.{Matched}
 use Rattle.sec_meaning.specs.declared.state.PlainState.{PlainState}
 use Rattle.sec_meaning.specs.declared.state.Removed.TheVariants as removed
-use Rattle.sec_meaning.specs.State.{held}
+use Rattle.sec_meaning.specs.State.{view_of}
 use Rattle.sec_meaning.specs.Values.{matches}
 
 -- the nearest number within -2^63 and 2^63 - 1
@@ -33,8 +33,10 @@ old_number name s = number (value_named name s.tx)
 -- the variables once one of this name, which is not empty, is changed
 abbrev pub changed : Change → List ℕ → Held → List NameValue
 changed (changes.Put value) name s = put_within name (expansion s value) s.tx
-changed (changes.Add value) name s = put_within name (signed_decimal (bounded (old_number name s +ℤ number (expansion s value)))) s.tx
-changed (changes.Sub value) name s = put_within name (signed_decimal (bounded (old_number name s -ℤ number (expansion s value)))) s.tx
+changed (changes.Add value) name s =
+    put_within name (signed_decimal (bounded (old_number name s +ℤ number (expansion s value)))) s.tx
+changed (changes.Sub value) name s =
+    put_within name (signed_decimal (bounded (old_number name s -ℤ number (expansion s value)))) s.tx
 changed changes.Delete name s = without name s.tx
 
 abbrev pub variables_after : Change → List ℕ → Held → List NameValue
@@ -42,7 +44,7 @@ variables_after change [] s = s.tx
 variables_after change (b ∷ name) s = changed change (b ∷ name) s
 
 abbrev pub set_variable : PlainState → SetVar → PlainState
-set_variable s v = record s { tx = variables_after v.change (expansion (held s) v.name) (held s) }
+set_variable s v = record s { tx = variables_after v.change (expansion (view_of s) v.name) (view_of s) }
 
 abbrev pub control : PlainState → Ctl → PlainState
 control s (ctls.Engine engine) = record s { engine = engine }

@@ -13,14 +13,14 @@ use Rattle.sec_ast.specs.declared.verdict.VerdictAct.TheVariants as acts
 use Rattle.sec_collect.specs.Body.{chosen_processor, is_longer}
 use Rattle.sec_meaning.specs.declared.state.After.{After}
 use Rattle.sec_meaning.specs.declared.state.After.TheVariants.{GoOn, End}
-use Rattle.sec_meaning.specs.declared.state.Flow.{Flow}
-use Rattle.sec_meaning.specs.declared.state.Flow.TheVariants.{Next, Skip, SkipTo, EndPhase, EndTo3, EndTo5, Interrupt}
+use Rattle.sec_meaning.specs.declared.state.RuleFlow.{RuleFlow}
+use Rattle.sec_meaning.specs.declared.state.RuleFlow.TheVariants.{Next, Skip, SkipTo, EndPhase, EndTo3, EndTo5, Interrupt}
 use Rattle.sec_meaning.specs.declared.state.Passing.{Passing}
 use Rattle.sec_meaning.specs.declared.state.Passing.TheVariants.{Looking, Skipping, Until}
 use Rattle.sec_meaning.specs.declared.state.PlainState.{PlainState}
 use Rattle.sec_meaning.specs.declared.state.Removed.{Removed}
 use Rattle.sec_meaning.specs.declared.state.Removed.TheVariants as removed
-use Rattle.sec_meaning.specs.State.{held}
+use Rattle.sec_meaning.specs.State.{view_of}
 use Rattle.sec_meaning.specs.Effect.{effect, is_on}
 
 -- how a phase ends: the state, the verdict where it interrupts, and how many rules it looked at
@@ -52,7 +52,7 @@ abbrev pub is_removed : Rule → PlainState → Bool
 is_removed r s = list_any (is_named_by r) s.removed_rules
 
 -- after a rule that was looked at
-abbrev pub follow : PlainState → Flow → (Passing → PlainState → Run) → Run
+abbrev pub follow : PlainState → RuleFlow → (Passing → PlainState → Run) → Run
 follow s Next rest = rest Looking s
 follow s (Skip n) rest = rest (Skipping n) s
 follow s (SkipTo label) rest = rest (Until label) s
@@ -90,7 +90,8 @@ walk p (items.Rule r ∷ left) passing s =
 -- the body is opened where it is read
 abbrev pub opened : Listing → PlainState → PlainState
 opened listing s =
-    if s.request_body then record s { body = Some (record { processor = chosen_processor (held s); limit = listing.request_limit }) }
+    if s.request_body
+    then record s { body = Some (record { processor = chosen_processor (view_of s); limit = listing.request_limit }) }
     else s
 
 -- whether a body over the limit is refused

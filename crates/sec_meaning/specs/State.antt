@@ -2,5 +2,13 @@
 use Rattle.sec_collect.specs.Held.{Held}
 use Rattle.sec_meaning.specs.declared.state.PlainState.{PlainState}
 
-abbrev pub held : PlainState → Held
-held s = record { request = s.request; processor = s.processor; body = s.body; response = s.response; tx = s.tx; captured = s.captured; matched = s.matched }
+abbrev pub view_of : PlainState → Held
+view_of s = record {
+  request = s.request;
+  processor = s.processor;
+  body = s.body;
+  response = s.response;
+  tx = s.tx;
+  captured = s.captured;
+  matched = s.matched;
+}

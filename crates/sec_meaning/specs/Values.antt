@@ -14,11 +14,11 @@ use Rattle.sec_transforms.specs.Apply.{chained, transformed}
 use Rattle.sec_meaning.specs.declared.state.Found.{Found}
 use Rattle.sec_meaning.specs.declared.state.Matched.{Matched}
 use Rattle.sec_meaning.specs.declared.state.PlainState.{PlainState}
-use Rattle.sec_meaning.specs.State.{held}
+use Rattle.sec_meaning.specs.State.{view_of}
 
 -- the values that a link looks at: each target stands beside its pattern
 abbrev pub values_of : Link → PlainState → List RowRef
-values_of link s = selection is_matched (zip link.targets (patterns_of link.targets)) [] (held s)
+values_of link s = selection is_matched (zip link.targets (patterns_of link.targets)) [] (view_of s)
 
 -- what a transformation makes of a value, where it changes it
 abbrev pub change : Transform → List ℕ → List (List ℕ)
@@ -33,7 +33,7 @@ changes (t ∷ ts) value = change t value ++ changes ts (transformed t value)
 abbrev pub before_chain : Link → List ℕ → List (List ℕ)
 before_chain link value = if link.multi then value ∷ changes link.transforms value else []
 
--- the values that are tested of one, the last of them that behind the whole chain
+-- the values that are tested of one, the last of them that after the whole chain
 abbrev pub tested : Link → List ℕ → List (List ℕ)
 tested link value = before_chain link value ++ chained link.transforms value ∷ []
 
@@ -69,4 +69,4 @@ listed (Some matched) = matched ∷ []
 
 -- the rows that a link matches, in order. The argument is expanded once, before
 abbrev pub matches : Link → PlainState → List Matched
-matches link s = flat_map (λ r. listed (match_of link (expansion (held s) link.op.text) r)) (values_of link s)
+matches link s = flat_map (λ r. listed (match_of link (expansion (view_of s) link.op.text) r)) (values_of link s)

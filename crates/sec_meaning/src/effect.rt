@@ -2,22 +2,27 @@ ghost use Rattle.std.specs.Prelude.{◌≡◌, IfOk, OnOk};
 ghost use Rattle.sec_collect.specs.Expansion.{expansion};
 ghost use Rattle.sec_meaning.specs.Effect.{denial_status, disruption, effect, flow_of, interruption, is_on, logged, matched_effect, redirect_status, skip_of};
 ghost use Rattle.sec_meaning.specs.Links.{after_links};
-ghost use Rattle.sec_meaning.specs.State.{held};
+ghost use Rattle.sec_meaning.specs.State.{view_of};
 
 use crate::links::after_links;
-use crate::values::expanded;
-use crate::{Flow, PlainState};
+use crate::{PlainState, RuleFlow, Transaction};
 use sec_ast::{Disrupt, Engine, LogLine, Macro, Rule, Verdict, VerdictAct};
 use std::alloc::Global;
-use waf_plain::NoMemory;
+use waf_plain::{Bytes, NoMemory};
 
-fn logged(alloc: Global, rule: &Rule, state: &mut PlainState) -> Result<(), NoMemory>
-    ensures { OnOk result (state.new ≡ logged rule.now state.old) }
+fn text<S: Transaction>(alloc: Global, text: &Macro, state: &S) -> Result<Bytes, NoMemory>
+    ensures { IfOk result (λ bytes. bytes ≡ expansion (view_of (S.seen state.now)) text.now) }
+{
+    state.expanded(alloc, text)?.into_bytes(alloc)
+}
+
+fn logged<S: Transaction>(alloc: Global, rule: &Rule, state: &mut S) -> Result<(), NoMemory>
+    ensures { OnOk result (S.seen state.new ≡ logged rule.now (S.seen state.old)) }
 {
     if rule.log {
-        let msg = expanded(alloc, &rule.msg, state)?;
-        let detail = expanded(alloc, &rule.logdata, state)?;
-        state.lines.push(LogLine {
+        let msg = text(alloc, &rule.msg, state)?;
+        let detail = text(alloc, &rule.logdata, state)?;
+        state.add_line(LogLine {
             rule: rule.id,
             msg,
             detail,
@@ -26,29 +31,29 @@ fn logged(alloc: Global, rule: &Rule, state: &mut PlainState) -> Result<(), NoMe
     Ok(())
 }
 
-/// Where a rule that matched goes on when it does not disrupt.
-pub fn skip_of(rule: &Rule) -> Result<Flow, NoMemory>
+// Where a rule that matched goes on when it does not disrupt.
+fn skip_of(rule: &Rule) -> Result<RuleFlow, NoMemory>
     ensures { IfOk result (λ flow. flow ≡ skip_of rule.now.skip_after rule.now.skip) }
 {
     match &rule.skip_after {
         Some(label) => {
             let label = label.clone()?;
-            Ok(Flow::SkipTo(label))
+            Ok(RuleFlow::SkipTo(label))
         }
-        None if rule.skip == 0 => Ok(Flow::Next),
-        None => Ok(Flow::Skip(rule.skip)),
+        None if rule.skip == 0 => Ok(RuleFlow::Next),
+        None => Ok(RuleFlow::Skip(rule.skip)),
     }
 }
 
-/// The status that a rule denies with, for the one that it names, 0 where it names none.
-pub fn denial_status(status: u32) -> u32
+// The status that a rule denies with, for the one that it names, 0 where it names none.
+fn denial_status(status: u32) -> u32
     ensures { result ≡ denial_status status }
 {
     if status == 0 { 403 } else { status }
 }
 
-/// The status that a rule redirects with, for the one that it names (RFC 9110, 15.4).
-pub fn redirect_status(status: u32) -> u32
+// The status that a rule redirects with, for the one that it names (RFC 9110, 15.4).
+fn redirect_status(status: u32) -> u32
     ensures { result ≡ redirect_status status }
 {
     if status == 301 || status == 302 || status == 303 || status == 307 || status == 308 {
@@ -58,27 +63,28 @@ pub fn redirect_status(status: u32) -> u32
     }
 }
 
-/// A rule's verdict, as a flow.
-pub fn interruption(rule: &Rule, act: VerdictAct, status: u32) -> Flow
+// A rule's verdict, as a flow.
+fn interruption(rule: &Rule, act: VerdictAct, status: u32) -> RuleFlow
     ensures { result ≡ interruption rule.now act status }
 {
-    Flow::Interrupt(Verdict {
+    RuleFlow::Interrupt(Verdict {
         rule: rule.id,
         act,
         status,
     })
 }
 
-fn redirect(
+fn redirect<S: Transaction>(
     alloc: Global,
     rule: &Rule,
     location: &Macro,
-    state: &PlainState,
-) -> Result<Flow, NoMemory>
+    state: &S,
+) -> Result<RuleFlow, NoMemory>
     ensures { IfOk result (λ flow. flow ≡ interruption rule.now
-        (VerdictAct.Redirect (expansion (held state.now) location.now)) (redirect_status rule.now.status)) }
+        (VerdictAct.Redirect (expansion (view_of (S.seen state.now)) location.now))
+        (redirect_status rule.now.status)) }
 {
-    let location = expanded(alloc, location, state)?;
+    let location = text(alloc, location, state)?;
     Ok(interruption(
         rule,
         VerdictAct::Redirect(location),
@@ -86,20 +92,20 @@ fn redirect(
     ))
 }
 
-fn disruption(alloc: Global, rule: &Rule, state: &PlainState) -> Result<Flow, NoMemory>
-    ensures { IfOk result (λ flow. flow ≡ disruption rule.now.disrupt rule.now state.now) }
+fn disruption<S: Transaction>(alloc: Global, rule: &Rule, state: &S) -> Result<RuleFlow, NoMemory>
+    ensures { IfOk result (λ flow. flow ≡ disruption rule.now.disrupt rule.now (S.seen state.now)) }
 {
     match &rule.disrupt {
         Disrupt::Pass => skip_of(rule),
         Disrupt::Deny => Ok(interruption(rule, VerdictAct::Deny, denial_status(rule.status))),
         Disrupt::Drop => Ok(interruption(rule, VerdictAct::Drop, denial_status(rule.status))),
         Disrupt::Redirect(location) => redirect(alloc, rule, location, state),
-        Disrupt::Allow => Ok(Flow::EndTo5),
-        Disrupt::AllowPhase => Ok(Flow::EndPhase),
+        Disrupt::Allow => Ok(RuleFlow::EndTo5),
+        Disrupt::AllowPhase => Ok(RuleFlow::EndPhase),
         Disrupt::AllowRequest => Ok(if rule.phase <= 2 {
-            Flow::EndTo3
+            RuleFlow::EndTo3
         } else {
-            Flow::EndPhase
+            RuleFlow::EndPhase
         }),
     }
 }
@@ -115,38 +121,42 @@ pub fn is_on(engine: Engine) -> bool
     }
 }
 
-fn flow_of(alloc: Global, rule: &Rule, state: &PlainState) -> Result<Flow, NoMemory>
-    ensures { IfOk result (λ flow. flow ≡ flow_of rule.now state.now) }
+fn flow_of<S: Transaction>(alloc: Global, rule: &Rule, state: &S) -> Result<RuleFlow, NoMemory>
+    ensures { IfOk result (λ flow. flow ≡ flow_of rule.now (S.seen state.now)) }
 {
-    if is_on(state.engine) && rule.phase <= 4 {
+    if is_on(state.engine()) && rule.phase <= 4 {
         disruption(alloc, rule, state)
     } else {
         skip_of(rule)
     }
 }
 
-// After the links of a rule: it logs and acts where each of them holds.
-fn matched_effect(
+/// What a rule does after its links: it logs and acts where each of them holds.
+pub fn matched_effect<S: Transaction>(
     alloc: Global,
     rule: &Rule,
-    is_held: bool,
-    state: &mut PlainState,
-) -> Result<Flow, NoMemory>
-    ensures flow { IfOk result (λ flow. flow ≡ (matched_effect rule.now (is_held, state.old)).1) }
-    ensures state { OnOk result (state.new ≡ (matched_effect rule.now (is_held, state.old)).0) }
+    holds: bool,
+    state: &mut S,
+) -> Result<RuleFlow, NoMemory>
+    ensures flow { IfOk result (λ flow. flow ≡ (matched_effect rule.now (holds, S.seen state.old)).1) }
+    ensures state { OnOk result (S.seen state.new ≡ (matched_effect rule.now (holds, S.seen state.old)).0) }
 {
-    if !is_held {
-        return Ok(Flow::Next);
+    if !holds {
+        return Ok(RuleFlow::Next);
     }
     logged(alloc, rule, state)?;
     flow_of(alloc, rule, state)
 }
 
 /// Looks at a rule.
-pub(crate) fn effect(alloc: Global, rule: &Rule, state: &mut PlainState) -> Result<Flow, NoMemory>
+pub(crate) fn effect(
+    alloc: Global,
+    rule: &Rule,
+    state: &mut PlainState,
+) -> Result<RuleFlow, NoMemory>
     ensures flow { IfOk result (λ flow. flow ≡ (effect rule.now state.old).1) }
     ensures state { OnOk result (state.new ≡ (effect rule.now state.old).0) }
 {
-    let is_held = after_links(alloc, rule.links.as_slice(), state)?;
-    matched_effect(alloc, rule, is_held, state)
+    let holds = after_links(alloc, rule.links.as_slice(), state)?;
+    matched_effect(alloc, rule, holds, state)
 }

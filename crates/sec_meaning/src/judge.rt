@@ -7,7 +7,7 @@ ghost use Rattle.sec_meaning.specs.Phase.{phase};
 use crate::phase::run;
 use crate::{Judged, PlainFault, PlainState};
 use sec_ast::{Listing, Processor, Verdict};
-use sec_collect::AddedResponse;
+use sec_collect::{AddedResponse, Captures, Variables};
 use sec_compile::build_items;
 use std::alloc::Global;
 use std::mem;
@@ -32,8 +32,8 @@ impl PlainState {
             request,
             body: None,
             response: None,
-            tx: Seq::new(alloc),
-            captured: Seq::new(alloc),
+            tx: Variables::new(alloc),
+            captured: Captures::new(alloc),
             matched: Seq::new(alloc),
             removed_rules: Seq::new(alloc),
             next_phase: 1,
@@ -48,8 +48,13 @@ impl PlainState {
         ensures { IfOk result (λ state. state ≡ answered response.now self.now) }
     {
         let mut state = self.clone()?;
-        state.add_response(response)?;
-        Ok(state)
+        match state.add_response(response) {
+            Ok(()) => Ok(state),
+            Err(NoMemory) => {
+                drop(state);
+                Err(NoMemory)
+            }
+        }
     }
 
     fn add_response(&mut self, response: &Response) -> Result<(), NoMemory>

@@ -5,17 +5,24 @@
 //! definitions are `judge` in `specs/Judgement.antt` and `phase` in `specs/Phase.antt`.
 #![tactic(auto)]
 
+mod actions;
 mod effect;
 mod judge;
 mod links;
 mod matching;
 mod patterns;
 mod phase;
+mod plain;
 mod state;
+mod text;
+mod transaction;
 mod values;
 
-pub use effect::{denial_status, interruption, is_on, redirect_status, skip_of};
+pub use actions::{act, act_on_each};
+pub use effect::{is_on, matched_effect};
 pub use judge::plain_judge;
 pub use phase::{at_marker, is_named_by, is_off, plain_phase, too_large};
 pub use sec_compile::CompileFault as PlainFault;
-pub use state::{After, Flow, Found, Judged, Matched, Passing, PlainState, Removed};
+pub use state::{After, Found, Judged, Matched, Passing, PlainState, Removed, RuleFlow};
+pub use text::Text;
+pub use transaction::Transaction;

@@ -11,7 +11,7 @@ ghost use Rattle.sec_meaning.specs.Phase.{Run, EndsAs, after, at_marker, at_rule
 
 use crate::effect::{effect, is_on};
 use crate::values::chosen_processor;
-use crate::{After, Flow, Passing, PlainFault, PlainState, Removed};
+use crate::{After, Passing, PlainFault, PlainState, Removed, RuleFlow};
 use sec_ast::{Engine, Item, Listing, Rule, Verdict, VerdictAct};
 use sec_collect::OpenedBody;
 use sec_compile::build_items;
@@ -55,24 +55,24 @@ fn is_removed(rule: &Rule, state: &PlainState) -> bool
         .any(|removed| is_named_by(rule, removed))
 }
 
-fn follow(flow: Flow, state: &mut PlainState) -> Result<After, NoMemory>
+fn follow(flow: RuleFlow, state: &mut PlainState) -> Result<After, NoMemory>
     ensures { IfOk result (λ then. (rest : ThePassing → TheState → Run)
         → EndsAs (follow state.old flow rest) (after then state.new rest)) }
 {
     match flow {
-        Flow::Next => Ok(After::GoOn(Passing::Looking)),
-        Flow::Skip(count) => Ok(After::GoOn(Passing::Skipping(count))),
-        Flow::SkipTo(label) => Ok(After::GoOn(Passing::Until(label))),
-        Flow::EndPhase => Ok(After::End(None)),
-        Flow::EndTo3 => {
+        RuleFlow::Next => Ok(After::GoOn(Passing::Looking)),
+        RuleFlow::Skip(count) => Ok(After::GoOn(Passing::Skipping(count))),
+        RuleFlow::SkipTo(label) => Ok(After::GoOn(Passing::Until(label))),
+        RuleFlow::EndPhase => Ok(After::End(None)),
+        RuleFlow::EndTo3 => {
             state.next_phase = 3;
             Ok(After::End(None))
         }
-        Flow::EndTo5 => {
+        RuleFlow::EndTo5 => {
             state.next_phase = 5;
             Ok(After::End(None))
         }
-        Flow::Interrupt(verdict) => {
+        RuleFlow::Interrupt(verdict) => {
             state.verdict = Some(verdict.clone()?);
             Ok(After::End(Some(verdict)))
         }
@@ -114,7 +114,7 @@ fn at_rule(
     }
 }
 
-/// What a phase passes over behind a marker of this label.
+/// What a phase passes over after a marker of this label.
 pub fn at_marker(marker: &Bytes, passing: Passing) -> Passing
     ensures { result ≡ at_marker marker.now passing }
 {
@@ -273,6 +273,11 @@ fn state_after(
     ensures { IfOk result (λ after. after ≡ (phase listing.now number state.now).state) }
 {
     let mut after = state.clone()?;
-    run(alloc, listing, number, &mut after)?;
-    Ok(after)
+    match run(alloc, listing, number, &mut after) {
+        Ok(_) => Ok(after),
+        Err(NoMemory) => {
+            drop(after);
+            Err(NoMemory)
+        }
+    }
 }

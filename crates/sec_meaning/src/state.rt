@@ -1,7 +1,7 @@
 ghost use Rattle.std.specs.Prelude.{◌≡◌, IfOk};
 
 use sec_ast::{Engine, LogLine, Processor, Verdict};
-use sec_collect::{AddedResponse, OpenedBody};
+use sec_collect::{AddedResponse, Captures, OpenedBody, Variables};
 use std::alloc::AllocError;
 use waf_plain::{Bytes, Seq};
 use web_parts::{NameValue, Request};
@@ -57,9 +57,9 @@ pub struct PlainState {
     pub body: Option<OpenedBody>,
     pub response: Option<AddedResponse>,
     /// The variables of TX, in the order in which they were first put.
-    pub tx: Seq<NameValue>,
+    pub tx: Variables,
     /// The captured texts, named by the numbers of their groups.
-    pub captured: Seq<NameValue>,
+    pub captured: Captures,
     /// The matched values of the last link that held, under their full names.
     pub matched: Seq<NameValue>,
     pub removed_rules: Seq<Removed>,
@@ -73,14 +73,9 @@ impl Clone for PlainState {
     ghost is_clone = { λ a b. b ≡ a };
 
     fn clone(&self) -> Result<PlainState, AllocError> {
-        let request = self.request.clone()?;
-        let response = copy_response(&self.response)?;
-        let tx = self.tx.clone()?;
-        let captured = self.captured.clone()?;
-        let matched = self.matched.clone()?;
-        let removed_rules = self.removed_rules.clone()?;
-        let verdict = self.verdict.clone()?;
-        let lines = self.lines.clone()?;
+        let (request, response, verdict) = copy_messages(self)?;
+        let (tx, captured, matched) = copy_rows(self)?;
+        let (removed_rules, lines) = copy_rules(self)?;
         Ok(PlainState {
             engine: self.engine,
             request_body: self.request_body,
@@ -100,6 +95,39 @@ impl Clone for PlainState {
     }
 }
 
+// The parts of a clone that take memory are made in three functions, each with few of them: what is let
+// go where memory runs out makes a proof long.
+
+// What came from outside, and the verdict on it.
+fn copy_messages(
+    state: &PlainState,
+) -> Result<(Request, Option<AddedResponse>, Option<Verdict>), AllocError>
+    ensures { IfOk result (λ copy. copy ≡ (state.now.request, state.now.response, state.now.verdict)) }
+{
+    let request = state.request.clone()?;
+    let response = copy_response(&state.response)?;
+    let verdict = state.verdict.clone()?;
+    Ok((request, response, verdict))
+}
+
+fn copy_rows(state: &PlainState) -> Result<(Variables, Captures, Seq<NameValue>), AllocError>
+    ensures { IfOk result (λ copy. copy ≡ (state.now.tx, state.now.captured, state.now.matched)) }
+{
+    let tx = state.tx.clone()?;
+    let captured = state.captured.clone()?;
+    let matched = state.matched.clone()?;
+    Ok((tx, captured, matched))
+}
+
+// The rules that are passed over, and what rules logged.
+fn copy_rules(state: &PlainState) -> Result<(Seq<Removed>, Seq<LogLine>), AllocError>
+    ensures { IfOk result (λ copy. copy ≡ (state.now.removed_rules, state.now.lines)) }
+{
+    let removed_rules = state.removed_rules.clone()?;
+    let lines = state.lines.clone()?;
+    Ok((removed_rules, lines))
+}
+
 fn copy_response(response: &Option<AddedResponse>) -> Result<Option<AddedResponse>, AllocError>
     ensures { IfOk result (λ copy. copy ≡ response.now) }
 {
@@ -109,10 +137,10 @@ fn copy_response(response: &Option<AddedResponse>) -> Result<Option<AddedRespons
     }
 }
 
-/// Where a phase goes on after a rule: with the next one; behind that many further ones of the phase;
-/// behind a marker; nowhere; nowhere, and with phase 3 or phase 5 next; or it interrupts.
+/// Where a phase goes on after a rule: with the next one; after that many further ones of the phase;
+/// after a marker; nowhere; nowhere, and with phase 3 or phase 5 next; or it interrupts.
 #[derive(Debug, Drop)]
-pub enum Flow {
+pub enum RuleFlow {
     Next,
     Skip(u32),
     SkipTo(Bytes),

@@ -2,7 +2,7 @@ ghost use Rattle.std.specs.Prelude.{◌≡◌, ◌++◌, ◌∷◌, [], if◌the
 ghost use Rattle.std.specs.Str.{bytes_eq};
 ghost use Rattle.sec_collect.specs.Body.{chosen_processor};
 ghost use Rattle.sec_collect.specs.Expansion.{expansion};
-ghost use Rattle.sec_meaning.specs.State.{held};
+ghost use Rattle.sec_meaning.specs.State.{view_of};
 ghost use Rattle.sec_meaning.specs.Values.{before_chain, change, changes, tested};
 ghost use Rattle.sec_transforms.specs.Apply.{transformed};
 
@@ -15,7 +15,7 @@ use waf_plain::{Bytes, NoMemory, Seq};
 
 /// The variables of a state, to select and to expand by.
 pub(crate) fn vars_of(alloc: Global, state: &PlainState) -> Result<Vars, NoMemory>
-    ensures { IfOk result (λ vars. vars ≡ held state.now) }
+    ensures { IfOk result (λ vars. vars ≡ view_of state.now) }
 {
     let request = state.request.clone()?;
     let mut vars = Vars::new(alloc, request)?;
@@ -89,7 +89,7 @@ fn add_response(
 
 /// A macro with values in the places of its references.
 pub(crate) fn expanded(alloc: Global, text: &Macro, state: &PlainState) -> Result<Bytes, NoMemory>
-    ensures { IfOk result (λ bytes. bytes ≡ expansion (held state.now) text.now) }
+    ensures { IfOk result (λ bytes. bytes ≡ expansion (view_of state.now) text.now) }
 {
     let vars = vars_of(alloc, state)?;
     let expanded = expand(alloc, &vars, text);
@@ -99,7 +99,7 @@ pub(crate) fn expanded(alloc: Global, text: &Macro, state: &PlainState) -> Resul
 
 /// The processor that opens the body now, if it is opened.
 pub(crate) fn chosen_processor(alloc: Global, state: &PlainState) -> Result<Processor, NoMemory>
-    ensures { IfOk result (λ processor. processor ≡ chosen_processor (held state.now)) }
+    ensures { IfOk result (λ processor. processor ≡ chosen_processor (view_of state.now)) }
 {
     let vars = vars_of(alloc, state)?;
     let processor = vars.chosen_processor();
@@ -140,9 +140,9 @@ fn add_changes(
 ) -> Result<(), NoMemory>
     ensures { OnOk result (out.new ≡ out.old ++ changes transforms.now value.now) }
 {
-    let mut held = Bytes::copy(alloc, value)?;
+    let mut text = Bytes::copy(alloc, value)?;
     for transform in transforms {
-        held = add_change(alloc, *transform, held.as_slice(), out)?;
+        text = add_change(alloc, *transform, text.as_slice(), out)?;
     }
     Ok(())
 }

@@ -16,13 +16,13 @@ use Rattle.sec_ast.specs.declared.verdict.LogLine.{LogLine}
 use Rattle.sec_ast.specs.declared.verdict.Verdict.{Verdict}
 use Rattle.sec_collect.specs.Expansion.{expansion}
 use Rattle.sec_collect.specs.Row.{row}
-use Rattle.sec_meaning.specs.declared.state.Flow.{Flow}
-use Rattle.sec_meaning.specs.declared.state.Flow.TheVariants.{Next, Skip, SkipTo, EndPhase, EndTo3, EndTo5, Interrupt}
+use Rattle.sec_meaning.specs.declared.state.RuleFlow.{RuleFlow}
+use Rattle.sec_meaning.specs.declared.state.RuleFlow.TheVariants.{Next, Skip, SkipTo, EndPhase, EndTo3, EndTo5, Interrupt}
 use Rattle.sec_meaning.specs.declared.state.Matched.{Matched}
 use Rattle.sec_meaning.specs.declared.state.Passing.{Passing}
 use Rattle.sec_meaning.specs.declared.state.Passing.TheVariants.{Looking, Skipping, Until}
 use Rattle.sec_meaning.specs.declared.state.PlainState.{PlainState}
-use Rattle.sec_meaning.specs.State.{held}
+use Rattle.sec_meaning.specs.State.{view_of}
 use Rattle.sec_meaning.specs.Values.{matches}
 use Rattle.sec_meaning.specs.Links.{act, act_on, act_on_each, after_link, after_links, capture, control, go_on, set_variable}
 use Rattle.sec_meaning.specs.Effect.{disruption, effect, flow_of, is_on, logged, matched_effect}
@@ -90,7 +90,7 @@ module _ (front : List LogLine) where
 
   logged_behind : (r : Rule) (s : PlainState) → logged r (behind_lines front s) ≡ behind_lines front (logged r s)
   logged_behind r s =
-      both_sides r.log (ap (λ (ls : List LogLine). record s { lines = ls }) (append_assoc front s.lines (record { rule = r.id; msg = expansion (held s) r.msg; detail = expansion (held s) r.logdata } ∷ []))) refl
+      both_sides r.log (ap (λ (ls : List LogLine). record s { lines = ls }) (append_assoc front s.lines (record { rule = r.id; msg = expansion (view_of s) r.msg; detail = expansion (view_of s) r.logdata } ∷ []))) refl
       ∙ over_choice (behind_lines front) r.log _ s
 
   disruption_behind : (d : Disrupt) (r : Rule) (s : PlainState) → disruption d r (behind_lines front s) ≡ disruption d r s
@@ -106,13 +106,13 @@ module _ (front : List LogLine) where
   flow_behind r s = both_sides (is_on s.engine && nat_le r.phase 4) (disruption_behind r.disrupt r s) refl
 
   matched_behind : (r : Rule) (x : Bool × PlainState) → matched_effect r (pair_behind x) ≡ ((behind_lines front (matched_effect r x).0, (matched_effect r x).1))
-  matched_behind r (true, s) = ap (λ (t : PlainState). (t, flow_of r t)) (logged_behind r s) ∙ ap (λ (f : Flow). (behind_lines front (logged r s), f)) (flow_behind r (logged r s))
+  matched_behind r (true, s) = ap (λ (t : PlainState). (t, flow_of r t)) (logged_behind r s) ∙ ap (λ (f : RuleFlow). (behind_lines front (logged r s), f)) (flow_behind r (logged r s))
   matched_behind r (false, s) = refl
 
   effect_behind : (r : Rule) (s : PlainState) → effect r (behind_lines front s) ≡ (behind_lines front (effect r s).0, (effect r s).1)
   effect_behind r s = ap (matched_effect r) (links_behind r.links s) ∙ matched_behind r (after_links r.links s)
 
-  follow_behind : (f : Flow) (s : PlainState) (rest : Passing → PlainState → Run) → ((w : Passing) (t : PlainState) → rest w (behind_lines front t) ≡ run_behind front (rest w t))
+  follow_behind : (f : RuleFlow) (s : PlainState) (rest : Passing → PlainState → Run) → ((w : Passing) (t : PlainState) → rest w (behind_lines front t) ≡ run_behind front (rest w t))
       → follow (behind_lines front s) f rest ≡ run_behind front (follow s f rest)
   follow_behind Next s rest h = h Looking s
   follow_behind (Skip n) s rest h = h (Skipping n) s
@@ -126,7 +126,7 @@ module _ (front : List LogLine) where
       → look r (behind_lines front s) rest ≡ run_behind front (look r s rest)
   look_behind r s rest h =
       both_sides (is_off s.engine) refl (both_sides (is_removed r s) (h Looking s)
-      (ap (λ (x : PlainState × Flow). one_more (follow x.0 x.1 rest)) (effect_behind r s) ∙ ap one_more (follow_behind (effect r s).1 (effect r s).0 rest h))
+      (ap (λ (x : PlainState × RuleFlow). one_more (follow x.0 x.1 rest)) (effect_behind r s) ∙ ap one_more (follow_behind (effect r s).1 (effect r s).0 rest h))
       ∙ over_choice (run_behind front) (is_removed r s) (rest Looking s) (one_more (follow (effect r s).0 (effect r s).1 rest)))
       ∙ over_choice (run_behind front) (is_off s.engine) (ended s) _
 

@@ -12,8 +12,8 @@ use Rattle.sec_ast.specs.declared.rule.Rule.{Rule}
 use Rattle.sec_ast.specs.declared.verdict.Verdict.{Verdict}
 use Rattle.web_parts.specs.declared.transaction.Request.{Request}
 use Rattle.sec_collect.specs.Row.{row}
-use Rattle.sec_meaning.specs.declared.state.Flow.{Flow}
-use Rattle.sec_meaning.specs.declared.state.Flow.TheVariants.{Next, Skip, SkipTo, EndPhase, EndTo3, EndTo5, Interrupt}
+use Rattle.sec_meaning.specs.declared.state.RuleFlow.{RuleFlow}
+use Rattle.sec_meaning.specs.declared.state.RuleFlow.TheVariants.{Next, Skip, SkipTo, EndPhase, EndTo3, EndTo5, Interrupt}
 use Rattle.sec_meaning.specs.declared.state.Matched.{Matched}
 use Rattle.sec_meaning.specs.declared.state.Passing.{Passing}
 use Rattle.sec_meaning.specs.declared.state.Passing.TheVariants.{Looking, Skipping, Until}
@@ -84,7 +84,7 @@ matched_stays r (false, s) = refl
 effect_stays : (r : Rule) (s : PlainState) → (effect r s).0.request ≡ s.request
 effect_stays r s = matched_stays r (after_links r.links s) ∙ links_stay r.links s
 
-follow_stays : (f : Flow) (s : PlainState) (rest : Passing → PlainState → Run) → ((w : Passing) (t : PlainState) → (rest w t).state.request ≡ t.request) → (follow s f rest).state.request ≡ s.request
+follow_stays : (f : RuleFlow) (s : PlainState) (rest : Passing → PlainState → Run) → ((w : Passing) (t : PlainState) → (rest w t).state.request ≡ t.request) → (follow s f rest).state.request ≡ s.request
 follow_stays Next s rest h = h Looking s
 follow_stays (Skip n) s rest h = h (Skipping n) s
 follow_stays (SkipTo l) s rest h = h (Until l) s

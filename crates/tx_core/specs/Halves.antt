@@ -14,11 +14,12 @@ use Rattle.tx_core.specs.HalfView.{HalfView}
 abbrev pub first_lines : Listing → Request → List LogLine
 first_lines listing request = (request_part listing request).state.lines
 
--- an interruption is the first verdict, and its lines are all that the judgement has, whichever response would come; else there is
--- no first verdict, and the half is seen as what was handed in
+-- an interruption is the first verdict, and its lines are all that the judgement has, whichever response would
+-- come; else there is no first verdict, and the half is seen as what was handed in
 abbrev pub BeginsAs : Listing → ℕ → Request → Begun → Type 0
 BeginsAs listing generation request (Interrupted verdict lines) =
-    (response : Option Response) → judge listing request response ≡ record { first = Some verdict; second = None; lines = lines }
+    (response : Option Response) → judge listing request response
+    ≡ record { first = Some verdict; second = None; lines = lines }
 BeginsAs listing generation request (Goes half lines) =
     (half ≡ record { generation = generation; listing = listing; request = request })
     × ((response : Option Response) → (judge listing request response).first ≡ None)

@@ -19,8 +19,8 @@ pub record FollowsAs (listing : Listing) (response : Response) (s : PlainState) 
   pub verdict : e.verdict ≡ (later_part listing (Some response) s).verdict
   pub lines : e.lines ≡ (last_part listing (later_part listing (Some response) s)).lines
 
--- the judgement of a request that was not interrupted, from the state after phase 2. Its lines are those that stood there, and
--- those that come of the state without them
+-- the judgement of a request that was not interrupted, from the state after phase 2. Its lines are those that stood
+-- there, and those that come of the state without them
 abbrev pub judged_later : Listing → Option Response → PlainState → Judged
 judged_later listing response s =
     let later = later_part listing response (without_lines s) in

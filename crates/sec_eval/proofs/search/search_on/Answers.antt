@@ -1,6 +1,6 @@
 use Rattle.std.proofs.Common.{◌∙◌, sym}
 use Rattle.std.proofs.lemmas.Result.{IfOk-weaker}
-use Rattle.sec_eval.specs.Text.{text_of}
+use Rattle.sec_meaning.specs.Text.{text_of}
 use Rattle.sec_eval.proofs.Searches.{kept, stepped}
 use Rattle.sec_eval.proofs.search.search_on.Goals as goal
 
