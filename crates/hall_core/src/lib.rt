@@ -1,6 +1,37 @@
-//! What names a parked transaction, and how many there are.
+//! The table of transactions: one shard of it, as an object of one thread. A request whose response
+//! is to be judged too enters under its key and gets a ticket. It runs until it is parked or leaves,
+//! and what is parked is claimed by the response or by the deadline.
+//!
+//! ```text
+//! let Entry::Entered(ticket) = hall.enter(key) else { .. };
+//! hall.park(ticket, deadline, half);
+//! match hall.resume(&key) {
+//!     Claim::Resumed { ticket, value } => ..,
+//!     Claim::NotParked => ..,
+//! }
+//! ```
+//!
+//! What each call does is the step in `specs/Step.antt`: its condition `may`, the replies that it
+//! `allows` and the state `after` it.
 #![tactic(auto)]
 
+// what callers hand in and get
+mod calls;
+mod row;
+mod shard;
+
+// the table
+mod hall;
+mod laws;
+mod rows;
+mod scan;
+mod turns;
+
+pub use calls::{Call, Claim, Entry, Expiry, Reply, Ticket};
+pub use hall::Hall;
+pub use laws::{lists_of_callers_are_kept, parked_is_claimed_at_most_once};
+pub use row::{Row, Stage};
+pub use shard::shard_of;
 use waf_plain::Bytes;
 
 /// What a transaction is parked under, so that its response finds it.
