@@ -12,13 +12,13 @@ use Rattle.conn_core.specs.Stands.{Closes, IsBroken, Stands, WaitsForBytes, fed,
 use Rattle.conn_core.specs.Trace.{Leave, Write, Close, trace}
 use Rattle.agent_main.specs.declared.serve.ConnEnd as end
 use Rattle.agent_main.specs.declared.serve.ConnEnd.TheVariants as ends
-use Rattle.agent_main.specs.declared.serve.TheConstants.{MOST_BYTES, NO_RESOURCES, OWN_SIZE}
+use Rattle.agent_main.specs.declared.serve.TheConstants.{MOST_BYTES, OWN_SIZE}
 use Rattle.agent_main.specs.Connection.{Ends, HasNeeds, IsTaken, Spent, Unread, Unwritten}
 use Rattle.agent_main.specs.Judge.{Need, Reply, replies_to}
 use Rattle.sec_ast.specs.declared.listing.Listing.{Listing}
 use Rattle.agent_main.specs.Steps.{EndsHere, Fails, Heard, Hears, ConnState, Runs, OnceConn}
 use Rattle.agent_main.proofs.Moving.{exactly}
-use Rattle.agent_main.proofs.Standing.{fed_is, shut_is}
+use Rattle.conn_core.proofs.Standing.{fed_is, shut_is}
 
 -- ---- a broken trace closes with status 13
 

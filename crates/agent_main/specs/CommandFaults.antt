@@ -22,6 +22,7 @@ Appends (Err faults.NoMemory) told old new = Unit {0}
 
 -- what a fault of reading comes to: the line of a fault in a text
 abbrev pub IsFaultOf : command.CommandFault → Fault → Type 0
-IsFaultOf (faults.Line line) found = (line ≡ fault_line found) × (found.kind ≢ kinds.ReadFault) × (found.kind ≢ kinds.NoMemory)
+IsFaultOf (faults.Line line) found =
+    (line ≡ fault_line found) × (found.kind ≢ kinds.ReadFault) × (found.kind ≢ kinds.NoMemory)
 IsFaultOf faults.ReadFault found = found.kind ≡ kinds.ReadFault
 IsFaultOf faults.NoMemory found = Unit {0}

@@ -2,13 +2,14 @@
 use Rattle.std.specs.Prelude.{◌≡◌, ◌⊎◌, ◌≤◌, ℕ, Bool, true, false, List, [], ◌∷◌, ◌++◌, length, take, Option, Some, IfSome}
 use Rattle.std.specs.List.{flat_map}
 use Rattle.waf_io.specs.Sink.{Adds}
+use Rattle.spop_frame.specs.declared.status.TheConstants.{NO_MEMORY}
 use Rattle.conn_core.specs.declared.need.Closing as closing
 use Rattle.conn_core.specs.declared.need.Closing.TheVariants as closings
 use Rattle.conn_core.specs.Stands.{IsBroken}
 use Rattle.conn_core.specs.Trace.{Bytes, Write, Close, trace}
 use Rattle.agent_main.specs.declared.serve.ConnEnd as end
 use Rattle.agent_main.specs.declared.serve.ConnEnd.TheVariants as ends
-use Rattle.agent_main.specs.declared.serve.TheConstants.{NO_RESOURCES, MOST_BYTES, OWN_SIZE}
+use Rattle.agent_main.specs.declared.serve.TheConstants.{MOST_BYTES, OWN_SIZE}
 use Rattle.agent_main.specs.Judge.{Need, replies_to}
 use Rattle.sec_ast.specs.declared.listing.Listing.{Listing}
 
@@ -49,7 +50,8 @@ pub record Unread (rules : Listing) (input : List ℕ) (left old new : Option (L
   pub added : Adds old (writes past) new
 
 -- A broken trace. The need at which memory ran out got no reply, and none after it did
-pub record BreaksOff (rules : Listing) (size : ℕ) (taken : List ℕ) (ended : Bool) (past needs : List Need) : Type 0 where
+pub record BreaksOff (rules : Listing) (size : ℕ) (taken : List ℕ) (ended : Bool) (past needs : List Need)
+    : Type 0 where
   pub replied : List Need
   pub unreplied : List Need
   pub past_is : past ≡ replied ++ unreplied
@@ -78,18 +80,19 @@ pub record Broken (rules : Listing) (input : List ℕ) (left old new : Option (L
   pub is_taken : IsTaken input left taken
   pub ended : Bool
   pub past : List Need
-  pub broken : BreaksOff rules OWN_SIZE taken ended past (past ++ Close (closings.Ended NO_RESOURCES) ∷ [])
+  pub broken : BreaksOff rules OWN_SIZE taken ended past (past ++ Close (closings.Ended NO_MEMORY) ∷ [])
   pub added : Adds old (writes past) new
 
 -- how serving a connection ended, of whose input a source has something left, and what was added
 abbrev pub Ends : end.ConnEnd → Listing → List ℕ → Option (List ℕ) → Option (List ℕ) → Option (List ℕ) → Type 0
 Ends (ends.Closed how) rules input left old new =
-    Closed rules input how old new ⊎ ((how ≡ closings.Ended NO_RESOURCES) × Broken rules input left old new)
+    Closed rules input how old new ⊎ ((how ≡ closings.Ended NO_MEMORY) × Broken rules input left old new)
 Ends ends.Spent rules input left old new = Spent rules input left old new
 Ends ends.ReadFault rules input left old new = Unread rules input left old new
 Ends ends.WriteFault rules input left old new = Unwritten rules input left old new
 Ends ends.NoMemory rules input left old new = (left ≡ Some input) × (new ≡ old)
 
 -- where the input is told, the connection over it ended so
-abbrev pub Serves : end.ConnEnd → Listing → Option (List ℕ) → Option (List ℕ) → Option (List ℕ) → Option (List ℕ) → Type 0
+abbrev pub Serves : end.ConnEnd → Listing
+    → Option (List ℕ) → Option (List ℕ) → Option (List ℕ) → Option (List ℕ) → Type 0
 Serves how rules first left old new = IfSome first (λ input. Ends how rules input left old new)

@@ -1,6 +1,7 @@
 -- What the judge answers to each need of a connection, under the rules of a listing.
 use Rattle.std.specs.Prelude.{◌≡◌, false, List, [], ◌∷◌, Option, Some, None}
 use Rattle.std.specs.List.{flat_map}
+use Rattle.spop_web.specs.declared.answer.AckError.TheVariants as errors
 use Rattle.web_parts.specs.declared.transaction.Request.{Request}
 use Rattle.sec_ast.specs.declared.listing.Listing.{Listing}
 use Rattle.sec_ast.specs.declared.verdict.Verdict.{Verdict}
@@ -34,7 +35,7 @@ judged rules request = reply_of rules request (judge rules request None).first
 abbrev pub reply_to : Listing → Need → List Reply
 reply_to rules (Look app) = Found (record {}) (record { responses = false; life = LIFE }) ∷ []
 reply_to rules (Begin handle request) = judged rules request ∷ []
-reply_to rules (Enter key) = Refused 3 ∷ []
+reply_to rules (Enter key) = Refused errors.TableFull ∷ []
 reply_to rules (Resume key) = NotParked ∷ []
 reply_to rules (Finish half response) = Ended None ∷ []
 reply_to rules other = []

@@ -21,6 +21,10 @@ OutOfMemory result old new = (result ≡ OUT_OF_MEMORY) × (new ≡ old)
 abbrev pub FilesFail : ℕ → ℕ → ℕ → Option (List ℕ) → Option (List ℕ) → Type 0
 FilesFail result before now old new = (result ≡ READ_FAULT) × Rose before now × (new ≡ old)
 
+-- the same before anything of the input was taken, of which the source had `first` left and has `left`
+abbrev pub FilesFailFirst : ℕ → ℕ → ℕ → Option (List ℕ) → Option (List ℕ) → Option (List ℕ) → Option (List ℕ) → Type 0
+FilesFailFirst result before now first left old new = FilesFail result before now old new × (left ≡ first)
+
 -- the bytes were reported under that status, or nothing was written
 abbrev pub Prints : ℕ → ℕ → List ℕ → ℕ → ℕ → Option (List ℕ) → Option (List ℕ) → Type 0
 Prints result status bytes before now old new =

@@ -2,7 +2,7 @@
 use Rattle.std.specs.Prelude.{◌≡◌, ℕ, Bool, true, false, List, [], ◌∷◌, ◌++◌, Option, Some, None}
 use Rattle.waf_io.specs.Sink.{Adds}
 use Rattle.conn_core.specs.declared.need.Closing as closing
-use Rattle.conn_core.specs.Stands.{Held, State, Stands, Closes, WaitsForBytes, fed, listens, shut}
+use Rattle.conn_core.specs.Stands.{ConnView, State, Stands, Closes, WaitsForBytes, fed, listens, shut}
 use Rattle.conn_core.specs.Trace.{Write}
 use Rattle.tx_core.specs.HalfView.{HalfView}
 use Rattle.agent_main.specs.declared.judge.TheRules.{TheRules}
@@ -16,7 +16,7 @@ use Rattle.agent_main.specs.Judge.{Need, replies_to}
 use Rattle.sec_ast.specs.declared.listing.Listing.{Listing}
 
 abbrev pub OnceConn : Type 0
-OnceConn = Held TheRules HalfView Ticket
+OnceConn = ConnView TheRules HalfView Ticket
 
 abbrev pub ConnState : Type 0
 ConnState = State TheRules HalfView Ticket
@@ -48,7 +48,8 @@ pub record Same (s t : ConnState) : Type 0 where
 -- it goes on at a later state
 abbrev pub Acts : Listing → OnceConn → OnceConn → Option (List ℕ) → Option (List ℕ) → Type 0
 Acts rules c d before now =
-    (old : Option (List ℕ)) (s : ConnState) → Runs rules c s old before → (t : ConnState) × Runs rules d t old now × Same s t
+    (old : Option (List ℕ)) (s : ConnState) → Runs rules c s old before
+    → (t : ConnState) × Runs rules d t old now × Same s t
 
 -- bytes are to be written next, of which a prefix was added
 pub record Fails (rules : Listing) (s : ConnState) (old now : Option (List ℕ)) : Type 0 where
@@ -60,12 +61,14 @@ pub record Fails (rules : Listing) (s : ConnState) (old now : Option (List ℕ))
   pub added : Adds old (writes past ++ prefix) now
 
 abbrev pub FailsToWrite : Listing → OnceConn → Option (List ℕ) → Option (List ℕ) → Type 0
-FailsToWrite rules c before now = (old : Option (List ℕ)) (s : ConnState) → Runs rules c s old before → Fails rules s old now
+FailsToWrite rules c before now =
+    (old : Option (List ℕ)) (s : ConnState) → Runs rules c s old before → Fails rules s old now
 
 -- it stands at its close
 abbrev pub ClosesAs : Listing → closing.Closing → OnceConn → OnceConn → Option (List ℕ) → Option (List ℕ) → Type 0
 ClosesAs rules how c d before now =
-    (old : Option (List ℕ)) (s : ConnState) → Runs rules c s old before → (t : ConnState) × Runs rules d t old now × Same s t × Closes d t how
+    (old : Option (List ℕ)) (s : ConnState) → Runs rules c s old before
+    → (t : ConnState) × Runs rules d t old now × Same s t × Closes d t how
 
 -- it waits for bytes
 abbrev pub WaitsThen : Listing → OnceConn → OnceConn → Option (List ℕ) → Option (List ℕ) → Type 0
@@ -80,22 +83,26 @@ Progresses rules (progresses.Closes how) c d before now = ClosesAs rules how c d
 Progresses rules progresses.Fails c d before now = FailsToWrite rules c before now
 
 -- one need was done, or that was the last
-abbrev pub Stepped : Listing → Option progress.Progress → OnceConn → OnceConn → Option (List ℕ) → Option (List ℕ) → Type 0
+abbrev pub Stepped : Listing → Option progress.Progress → OnceConn → OnceConn
+    → Option (List ℕ) → Option (List ℕ) → Type 0
 Stepped rules None c d before now = Acts rules c d before now
 Stepped rules (Some progress) c d before now = Progresses rules progress c d before now
 
 -- after a piece, or at the end of the input: it waits, or that was its end
 abbrev pub Heard : Listing → Option end.ConnEnd → ConnState → OnceConn → Option (List ℕ) → Option (List ℕ) → Type 0
-Heard rules None s d old now = (t : ConnState) × Runs rules d t old now × Same s t × WaitsForBytes t × (listens d ≡ true)
+Heard rules None s d old now =
+    (t : ConnState) × Runs rules d t old now × Same s t × WaitsForBytes t × (listens d ≡ true)
 Heard rules (Some (ends.Closed how)) s d old now = (t : ConnState) × Runs rules d t old now × Same s t × Closes d t how
 Heard rules (Some ends.WriteFault) s d old now = Fails rules s old now
 Heard rules (Some ends.Spent) s d old now = ⊥
 Heard rules (Some ends.ReadFault) s d old now = ⊥
 Heard rules (Some ends.NoMemory) s d old now = ⊥
 
-abbrev pub Hears : Listing → List ℕ → Option end.ConnEnd → OnceConn → OnceConn → Option (List ℕ) → Option (List ℕ) → Type 0
+abbrev pub Hears : Listing → List ℕ → Option end.ConnEnd → OnceConn → OnceConn
+    → Option (List ℕ) → Option (List ℕ) → Type 0
 Hears rules piece result c d before now =
     (old : Option (List ℕ)) (s : ConnState) → Runs rules c s old before → Heard rules result (fed c piece s) d old now
 
 abbrev pub EndsHere : Listing → end.ConnEnd → OnceConn → OnceConn → Option (List ℕ) → Option (List ℕ) → Type 0
-EndsHere rules result c d before now = (old : Option (List ℕ)) (s : ConnState) → Runs rules c s old before → Heard rules (Some result) (shut c s) d old now
+EndsHere rules result c d before now =
+    (old : Option (List ℕ)) (s : ConnState) → Runs rules c s old before → Heard rules (Some result) (shut c s) d old now

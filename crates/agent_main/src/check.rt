@@ -102,7 +102,8 @@ fn push_app<F: Files>(
     files: &mut F,
     text: &mut Bytes,
 ) -> Result<(), CommandFault>
-    ensures told { IfSome (F.content files.old) (λ told. Appends result (app_in told conf.now app.now) text.old text.new) }
+    ensures told { IfSome (F.content files.old) (λ told.
+        Appends result (app_in told conf.now app.now) text.old text.new) }
     ensures same { F.content files.new ≡ F.content files.old }
     ensures later { F.faults files.old ≤ F.faults files.new }
     ensures cause { result ≡ Err faults.ReadFault → Rose (F.faults files.old) (F.faults files.new) }

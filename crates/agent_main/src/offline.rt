@@ -2,7 +2,7 @@ ghost use Rattle.std.specs.Prelude.{◌≡◌, ◌⊎◌, Err, IfSome, List, Non
 ghost use Rattle.waf_io.specs.Counts.{Rose};
 ghost use Rattle.agent_main.specs.Check.{checked};
 ghost use Rattle.agent_main.specs.Listings.{listing_under};
-ghost use Rattle.agent_main.specs.Report.{Answers, FilesFail, Prints, Reports};
+ghost use Rattle.agent_main.specs.Report.{Answers, FilesFailFirst, Prints, Reports};
 ghost use Rattle.sec_ast.specs.declared.listing.Listing.{Listing};
 ghost use Rattle.agent_main.specs.Run.{Exits};
 ghost use Rattle.agent_main.specs.declared.exit_status.TheConstants.{OTHER_WORDS, READ_FAULT, REFUSED, UNFINISHED, WRITE_FAULT};
@@ -50,14 +50,20 @@ pub fn offline_main<F: Files, S: Source, K: Sink>(
     // Rules that are refused, where the files are told
     ensures refused { IfSome (F.content files.old) (λ told. (name line : List ℕ) →
         rules_named words ≡ Some name → listing_under told name ≡ Err line
-        → Prints result REFUSED line (F.faults files.old) (F.faults files.new) (K.held output.old) (K.held output.new)) }
+        → Prints result REFUSED line
+        (F.faults files.old) (F.faults files.new) (K.held output.old) (K.held output.new)
+        × (S.left input.new ≡ S.left input.old)) }
     ensures unread { result ≡ REFUSED → S.left input.new ≡ S.left input.old }
 
     // The connection under the rules, where files and input are told
     ensures served { IfSome (F.content files.old) (λ told. IfSome (S.left input.old) (λ bytes.
         (name : List ℕ) (rules : Listing) → rules_named words ≡ Some name → listing_under told name ≡ Ok rules
         → Exits result rules bytes (S.left input.new) (K.held output.old) (K.held output.new)
-        ⊎ FilesFail result (F.faults files.old) (F.faults files.new) (K.held output.old) (K.held output.new))) }
+        ⊎ FilesFailFirst result (F.faults files.old) (F.faults files.new)
+        (S.left input.old) (S.left input.new) (K.held output.old) (K.held output.new))) }
+
+    // Only a connection takes anything of the input
+    ensures untouched { rules_named words ≡ None → S.left input.new ≡ S.left input.old }
 
     // Causes, whatever is told
     ensures once_alone { result ≡ UNFINISHED → conf_named words ≡ None }

@@ -1,7 +1,7 @@
 ghost use Rattle.std.specs.Prelude.{◌≡◌, ◌≢◌, ◌⊎◌, Err, IfSome, List, Ok, ℕ};
 ghost use Rattle.waf_io.specs.Counts.{Rose};
 ghost use Rattle.agent_main.specs.Listings.{listing_under};
-ghost use Rattle.agent_main.specs.Report.{FilesFail, Prints};
+ghost use Rattle.agent_main.specs.Report.{FilesFailFirst, Prints};
 ghost use Rattle.agent_main.specs.Run.{Exits, status_of};
 ghost use Rattle.agent_main.specs.declared.exit_status.TheConstants.{OTHER_WORDS, READ_FAULT, REFUSED, WRITE_FAULT};
 ghost use Rattle.sec_ast.specs.declared.listing.Listing.{Listing};
@@ -10,9 +10,10 @@ use crate::command_fault::CommandFault;
 use crate::exit_status::{DONE, OUT_OF_MEMORY, READ_FAULT, REFUSED, UNFINISHED, WRITE_FAULT};
 use crate::listings::rules_of;
 use crate::report::report;
-use crate::serve::{ConnEnd, NO_RESOURCES, serve};
+use crate::serve::{ConnEnd, serve};
 use conn_core::Closing;
 use sec_compile::Ruleset;
+use spop_frame::status;
 use std::alloc::Global;
 use std::sync::Arc;
 use waf_io::{Files, Sink, Source};
@@ -27,11 +28,14 @@ pub fn once<F: Files, S: Source, K: Sink>(
 ) -> u8
     ensures other { result ≢ OTHER_WORDS }
     ensures refused { IfSome (F.content files.old) (λ told. (line : List ℕ) → listing_under told name.now ≡ Err line
-        → Prints result REFUSED line (F.faults files.old) (F.faults files.new) (K.held output.old) (K.held output.new)) }
+        → Prints result REFUSED line
+        (F.faults files.old) (F.faults files.new) (K.held output.old) (K.held output.new)
+        × (S.left input.new ≡ S.left input.old)) }
     ensures served { IfSome (F.content files.old) (λ told. IfSome (S.left input.old) (λ bytes.
         (rules : Listing) → listing_under told name.now ≡ Ok rules
         → Exits result rules bytes (S.left input.new) (K.held output.old) (K.held output.new)
-        ⊎ FilesFail result (F.faults files.old) (F.faults files.new) (K.held output.old) (K.held output.new))) }
+        ⊎ FilesFailFirst result (F.faults files.old) (F.faults files.new)
+        (S.left input.old) (S.left input.new) (K.held output.old) (K.held output.new))) }
     ensures unread { result ≡ REFUSED → S.left input.new ≡ S.left input.old }
     ensures read_fault { result ≡ READ_FAULT
         → Rose (F.faults files.old) (F.faults files.new) ⊎ Rose (S.faults input.old) (S.faults input.new) }
@@ -65,7 +69,7 @@ fn status_of(end: ConnEnd) -> u8
 {
     match end {
         ConnEnd::Closed(Closing::Done) => DONE,
-        ConnEnd::Closed(Closing::Ended(NO_RESOURCES)) => OUT_OF_MEMORY,
+        ConnEnd::Closed(Closing::Ended(status::NO_MEMORY)) => OUT_OF_MEMORY,
         ConnEnd::Closed(_) => UNFINISHED,
         ConnEnd::Spent => UNFINISHED,
         ConnEnd::ReadFault => READ_FAULT,

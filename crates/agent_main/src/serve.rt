@@ -24,9 +24,6 @@ pub const MOST_BYTES: u64 = 4611686018427387904;
 // As many bytes as are read at a time.
 const PIECE_SIZE: usize = 4096;
 
-// The status of a DISCONNECT of an agent that is out of memory.
-pub const NO_RESOURCES: u32 = 13;
-
 // How serving a connection ended.
 #[derive(Clone, Copy, Debug, PartialEq, Eq)]
 pub enum ConnEnd {
@@ -125,7 +122,8 @@ fn hear<K: Sink>(
     output: &mut K,
 ) -> Option<ConnEnd>
     requires { IsServing (arc_value rules.now) conn.old (K.held output.old) }
-    ensures heard { Hears (arc_value rules.now) piece.now result conn.old conn.new (K.held output.old) (K.held output.new) }
+    ensures heard { Hears (arc_value rules.now) piece.now result
+        conn.old conn.new (K.held output.old) (K.held output.new) }
     ensures later { K.faults output.old ≤ K.faults output.new }
     ensures no_read { result ≢ Some ConnEnd.ReadFault }
     ensures cause { result ≡ Some ConnEnd.WriteFault → Rose (K.faults output.old) (K.faults output.new) }
@@ -167,7 +165,8 @@ fn advance<K: Sink>(
     output: &mut K,
 ) -> Progress
     requires { IsServing (arc_value rules.now) conn.old (K.held output.old) }
-    ensures progresses { Progresses (arc_value rules.now) result conn.old conn.new (K.held output.old) (K.held output.new) }
+    ensures progresses { Progresses (arc_value rules.now) result
+        conn.old conn.new (K.held output.old) (K.held output.new) }
     ensures later { K.faults output.old ≤ K.faults output.new }
     ensures cause { result ≡ Progress.Fails → Rose (K.faults output.old) (K.faults output.new) }
 {

@@ -3,3 +3,4 @@ pub mod Heads
 pub mod Inner
 pub mod Served
 pub mod Steps
+pub mod Standing

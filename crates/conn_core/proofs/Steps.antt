@@ -1,8 +1,8 @@
 -- What a step needs for the next state to be stood for.
 use Rattle.std.proofs.Common.{◌≡◌, ℕ, Bool, true, false, cond, ◌||◌, List, [], ◌∷◌, ◌++◌, refl, sym, ◌∙◌, ap, subst, append_assoc, append-nil}
 use Rattle.conn_core.specs.declared.stage.Stage.{Stage}
-use Rattle.conn_core.specs.Trace.{Need, Bytes, Look, Enter, Begin, Park, Leave, Resume, Finish, Retire, Write, Close, Reply, Found, UnknownApp, Entered, Refused, Interrupted, Goes, Resumed, NotParked, Ended, trace}
-use Rattle.conn_core.specs.Stands.{State, ConnView, served, replied, left_of, hears, Going, tickets_in, spent_in, held_at, Plain, IsEnding, StandsAs, Stands, Waits}
+use Rattle.conn_core.specs.Trace.{Need, Bytes, Look, Enter, Begin, Park, Leave, Resume, Finish, Retire, Write, Close, Reply, Found, UnknownApp, Entered, Refused, Interrupted, Goes, Resumed, NotParked, Ended, held_by, trace}
+use Rattle.conn_core.specs.Stands.{State, ConnView, served, replied, left_of, hears, Going, tickets_in, spent_in, Plain, IsEnding, StandsAs, Stands, Waits}
 
 module _ {R P T : Type 0} where
   pub tickets_append : (a b : List (Reply R P T)) → tickets_in (a ++ b) ≡ tickets_in a ++ tickets_in b
@@ -53,16 +53,16 @@ module _ {R P T : Type 0} where
   }
 
   -- the tickets that are given and spent on the way
-  abbrev pub Balances : Stage R P T → Stage R P T → List (Need R P T) → List (Reply R P T) → Type 0
-  Balances c d done got = held_at c ++ tickets_in got ≡ spent_in done ++ held_at d
+  abbrev pub Balances : ConnView R P T → ConnView R P T → List (Need R P T) → List (Reply R P T) → Type 0
+  Balances c d done got = held_by c.hold ++ tickets_in got ≡ spent_in done ++ held_by d.hold
 
   pub plain_on : (c d : ConnView R P T) (s : State R P T) (done : List (Need R P T)) (got : List (Reply R P T)) → hears c.stage c.ended ≡ true → d.ended ≡ c.ended
-      → Moves c d done got → Balances c.stage d.stage done got → Plain c s → Plain d (moved done got s)
+      → Moves c d done got → Balances c d done got → Plain c s → Plain d (moved done got s)
   plain_on c d s done got h same m b p = record {
     going = going_on c d s done got h m p.going;
     tickets = tickets_append s.replies got ∙ ap (λ (l : List T). l ++ tickets_in got) p.tickets
-        ∙ append_assoc (spent_in s.past) (held_at c.stage) (tickets_in got) ∙ ap (λ (l : List T). spent_in s.past ++ l) b
-        ∙ sym (append_assoc (spent_in s.past) (spent_in done) (held_at d.stage)) ∙ ap (λ (l : List T). l ++ held_at d.stage) (sym (spent_append s.past done));
+        ∙ append_assoc (spent_in s.past) (held_by c.hold) (tickets_in got) ∙ ap (λ (l : List T). spent_in s.past ++ l) b
+        ∙ sym (append_assoc (spent_in s.past) (spent_in done) (held_by d.hold)) ∙ ap (λ (l : List T). l ++ held_by d.hold) (sym (spent_append s.past done));
     ended = same ∙ p.ended;
   }
 
@@ -76,16 +76,16 @@ module _ {R P T : Type 0} where
   nothing s = only_past [] s ∙ ap (λ (l : List (Need R P T)). record { size = s.size; input = s.input; ended = s.ended; replies = s.replies; past = l }) (append-nil s.past)
 
   -- a need is done; a reply is got; both; neither
-  pub serves : (c d : ConnView R P T) (s : State R P T) (n : Need R P T) → hears c.stage c.ended ≡ true → d.ended ≡ c.ended → Moves c d (n ∷ []) [] → Balances c.stage d.stage (n ∷ []) [] → Plain c s → Plain d (served n s)
+  pub serves : (c d : ConnView R P T) (s : State R P T) (n : Need R P T) → hears c.stage c.ended ≡ true → d.ended ≡ c.ended → Moves c d (n ∷ []) [] → Balances c d (n ∷ []) [] → Plain c s → Plain d (served n s)
   serves c d s n h same m b p = subst (λ (x : State R P T). Plain d x) (only_past (n ∷ []) s) (plain_on c d s (n ∷ []) [] h same m b p)
 
-  pub hears_of : (c d : ConnView R P T) (s : State R P T) (r : Reply R P T) → hears c.stage c.ended ≡ true → d.ended ≡ c.ended → Moves c d [] (r ∷ []) → Balances c.stage d.stage [] (r ∷ []) → Plain c s → Plain d (replied r s)
+  pub hears_of : (c d : ConnView R P T) (s : State R P T) (r : Reply R P T) → hears c.stage c.ended ≡ true → d.ended ≡ c.ended → Moves c d [] (r ∷ []) → Balances c d [] (r ∷ []) → Plain c s → Plain d (replied r s)
   hears_of c d s r h same m b p = subst (λ (x : State R P T). Plain d x) (only_replies (r ∷ []) s) (plain_on c d s [] (r ∷ []) h same m b p)
 
-  pub both : (c d : ConnView R P T) (s : State R P T) (n : Need R P T) (r : Reply R P T) → hears c.stage c.ended ≡ true → d.ended ≡ c.ended → Moves c d (n ∷ []) (r ∷ []) → Balances c.stage d.stage (n ∷ []) (r ∷ []) → Plain c s → Plain d (replied r (served n s))
+  pub both : (c d : ConnView R P T) (s : State R P T) (n : Need R P T) (r : Reply R P T) → hears c.stage c.ended ≡ true → d.ended ≡ c.ended → Moves c d (n ∷ []) (r ∷ []) → Balances c d (n ∷ []) (r ∷ []) → Plain c s → Plain d (replied r (served n s))
   both c d s n r h same m b p = plain_on c d s (n ∷ []) (r ∷ []) h same m b p
 
-  pub stays : (c d : ConnView R P T) (s : State R P T) → hears c.stage c.ended ≡ true → d.ended ≡ c.ended → Moves c d [] [] → Balances c.stage d.stage [] [] → Plain c s → Plain d s
+  pub stays : (c d : ConnView R P T) (s : State R P T) → hears c.stage c.ended ≡ true → d.ended ≡ c.ended → Moves c d [] [] → Balances c d [] [] → Plain c s → Plain d s
   stays c d s h same m b p = subst (λ (x : State R P T). Plain d x) (nothing s) (plain_on c d s [] [] h same m b p)
 
   -- where it can't be broken
@@ -96,5 +96,5 @@ module _ {R P T : Type 0} where
   pub stands : (c : ConnView R P T) (s : State R P T) → c.broken ≡ false → Waits c.stage c → Plain c s → Stands c s
   stands c s b w p = record { waits = w; stands = subst (λ (x : Bool). StandsAs x c s) (sym b) p }
 
-  pub at_stage : (c : ConnView R P T) (s : State R P T) (stage : Stage R P T) → c.stage ≡ stage → Stands c s → Stands (record c { stage = stage }) s
-  at_stage c s stage e h = subst (λ (x : Stage R P T). Stands (record c { stage = x }) s) e h
+  pub at_stage : (c : ConnView R P T) (s : State R P T) (stage : Stage R P) → c.stage ≡ stage → Stands c s → Stands (record c { stage = stage }) s
+  at_stage c s stage e h = subst (λ (x : Stage R P). Stands (record c { stage = x }) s) e h

@@ -1,5 +1,6 @@
 -- What the machine does between two needs.
 use Rattle.std.specs.Prelude.{◌≡◌, ℕ, ◌<◌, true, false, Option, Some, None, List, ◌∷◌, ◌++◌, length}
+use Rattle.spop_frame.specs.declared.frame.Frame.{Frame}
 use Rattle.spop_hello.specs.Frames.{disconnect}
 use Rattle.spop_talk.specs.declared.message.Message.{Message}
 use Rattle.spop_web.specs.declared.request.Asked.{Asked}
@@ -10,20 +11,21 @@ use Rattle.conn_core.specs.declared.outcome.Outcome as outcome
 use Rattle.conn_core.specs.declared.stage.Stage.{Stage}
 use Rattle.conn_core.specs.declared.stage.Stage.TheVariants as at
 use Rattle.conn_core.specs.Outcome.{actions_of}
-use Rattle.conn_core.specs.Stands.{ConnView, State, Plain, Stands}
+use Rattle.conn_core.specs.Stands.{ConnView, State, Framed, Plain, Stands}
 
-module _ {R P T : Type 0} where
+module _ {R P : Type 0} where
   -- it holds nothing of a need
-  abbrev pub IsBlank : Stage R P T → Type 0
+  abbrev pub IsBlank : Stage R P → Type 0
   IsBlank at.Bytes = Unit {0}
   IsBlank at.Ready = Unit {0}
   IsBlank stage = ⊥
 
   -- what comes after the bytes are written
-  abbrev pub after_write : Option closing.Closing → Stage R P T
+  abbrev pub after_write : Option closing.Closing → Stage R P
   after_write None = at.Bytes
   after_write (Some how) = at.Close how
 
+module _ {R P T : Type 0} where
   -- d goes on where c did
   abbrev pub GoesOn : ConnView R P T → ConnView R P T → Type 0
   GoesOn c d = (s : State R P T) → Plain c s → Plain d s
@@ -31,6 +33,13 @@ module _ {R P T : Type 0} where
   -- d stands, between two calls, for what c did
   abbrev pub ComesTo : ConnView R P T → ConnView R P T → Type 0
   ComesTo c d = (s : State R P T) → Plain c s → Stands d s
+
+  -- the same of what goes on at this frame
+  abbrev pub GoesOnAt : Frame → ConnView R P T → ConnView R P T → Type 0
+  GoesOnAt f c d = (s : State R P T) → Framed f c s → Plain d s
+
+  abbrev pub ComesFrom : Frame → ConnView R P T → ConnView R P T → Type 0
+  ComesFrom f c d = (s : State R P T) → Framed f c s → Stands d s
 
   -- the agent leaves with that status
   abbrev pub leaving : ℕ → ConnView R P T → ConnView R P T

@@ -2,6 +2,7 @@
 use Rattle.std.specs.Prelude.{◌≡◌, ◌⊎◌, ℕ, ◌+◌, ◌*◌, Bool, true, false, cond, not, ◌||◌, Option, Some, None, List, [], ◌∷◌, ◌++◌, length, drop, map}
 use Rattle.spop_frame.specs.Head.{NotYet, head_of}
 use Rattle.spop_frame.specs.declared.frame.Frame.{Frame}
+use Rattle.spop_frame.specs.declared.status.TheConstants.{NO_MEMORY}
 use Rattle.spop_hello.specs.Frames.{disconnect}
 use Rattle.spop_talk.specs.declared.ack.Action.{Action}
 use Rattle.spop_talk.specs.declared.message.Message.{Message}
@@ -10,8 +11,7 @@ use Rattle.conn_core.specs.declared.need.Closing.TheVariants as closings
 use Rattle.conn_core.specs.declared.stage.Hold.{Hold}
 use Rattle.conn_core.specs.declared.stage.Stage.{Stage}
 use Rattle.conn_core.specs.declared.stage.Stage.TheVariants as at
-use Rattle.conn_core.specs.declared.status.TheConstants.{NO_MEMORY}
-use Rattle.conn_core.specs.Trace.{Need, Needs, Bytes, Look, Enter, Begin, Park, Leave, Resume, Finish, Retire, Write, Close, Reply, Replies, Next, Entered, judged, begun, entered, looked, finished, resumed, messages, answer, limit_of, needs_from, any_frame, trace}
+use Rattle.conn_core.specs.Trace.{Need, Needs, Bytes, Look, Enter, Begin, Park, Leave, Resume, Finish, Retire, Write, Close, Reply, Replies, Next, Entered, held_by, leaves, put_by, judged, begun, entered, looked, finished, resumed, messages, answer, limit_of, needs_from, any_frame, trace}
 
 -- a state of the definition: the input so far, whether it has ended, the replies so far, and the needs that are done
 pub record State (R P T : Type 0) : Type 0 where
@@ -27,25 +27,80 @@ pub record ConnView (R P T : Type 0) : Type 0 where
   pub agreed : Option ℕ
   pub unread : List ℕ
   pub ended : Bool
-  pub stage : Stage R P T
+  pub stage : Stage R P
+  pub hold : Option (Hold T)
   pub stream : ℕ  -- of the NOTIFY that is being answered, as are the next three
   pub frame : ℕ
   pub left : List Message
   pub actions : List Action
   pub broken : Bool
 
--- its former name, by which the program's definitions call it
-abbrev pub Held : Type 0 → Type 0 → Type 0 → Type 0
-Held R P T = ConnView R P T
+-- the calls that an unread byte, or a message that is left, can take
+abbrev pub calls_each : ℕ
+calls_each = 16
 
--- the ticket that is held
-abbrev pub ticket_of : {T : Type 0} → Option (Hold T) → Option T
-ticket_of None = None
-ticket_of (Some hold) = Some hold.ticket
+abbrev pub is_held : {T : Type 0} → Option (Hold T) → Bool
+is_held None = false
+is_held (Some hold) = true
 
-abbrev pub held_by : {T : Type 0} → Option (Hold T) → List T
-held_by None = []
-held_by (Some hold) = hold.ticket ∷ []
+-- a ticket is held only from the time that a request has it until it is parked or left
+abbrev pub Holds : {R P T : Type 0} → Stage R P → Option (Hold T) → Type 0
+Holds (at.Begin id request rules) hold = Unit {0}
+Holds (at.Begun id) hold = Unit {0}
+Holds (at.Park id half) hold = is_held hold ≡ true
+Holds (at.Leave id verdict) hold = is_held hold ≡ true
+Holds at.LastLeave hold = is_held hold ≡ true
+Holds stage hold = is_held hold ≡ false
+
+module _ {R P : Type 0} where
+  -- nothing comes after the end of an input at which it closed
+  abbrev pub hears : Stage R P → Bool → Bool
+  hears (at.Close how) ended = not ended
+  hears stage ended = true
+
+  -- at Close, and once it is out of memory, no more input is heard
+  abbrev pub is_open : Stage R P → Bool
+  is_open (at.Close how) = false
+  is_open stage = true
+
+  -- what is left of a broken trace
+  abbrev pub IsEnding : Stage R P → Type 0
+  IsEnding at.LastLeave = Unit {0}
+  IsEnding at.LastWrite = Unit {0}
+  IsEnding (at.Close how) = Unit {0}
+  IsEnding stage = ⊥
+
+  -- the values of a need were taken, and its answer was not given yet
+  abbrev pub IsTaken : Stage R P → Type 0
+  IsTaken (at.Entering id request rules life) = Unit {0}
+  IsTaken (at.Begun id) = Unit {0}
+  IsTaken (at.Retiring id) = Unit {0}
+  IsTaken (at.Resuming id response) = Unit {0}
+  IsTaken (at.Finishing id) = Unit {0}
+  IsTaken stage = ⊥
+
+  -- a number for the stage in the bound on the calls
+  abbrev pub rank : Stage R P → ℕ
+  rank (at.Look id key request) = 12
+  rank (at.Enter id key request rules life) = 11
+  rank (at.Entering id request rules life) = 10
+  rank (at.Begin id request rules) = 9
+  rank (at.Begun id) = 8
+  rank (at.Resume id key response) = 10
+  rank (at.Resuming id response) = 9
+  rank (at.Finish id half response) = 8
+  rank (at.Finishing id) = 7
+  rank (at.Retire id half) = 7
+  rank (at.Retiring id) = 6
+  rank (at.Park id half) = 6
+  rank (at.Leave id verdict) = 6
+  rank at.Ready = 5
+  rank (at.Write bytes None) = 4
+  rank at.Bytes = 3
+  rank at.LastLeave = 2
+  rank (at.Write bytes (Some how)) = 1
+  rank at.LastWrite = 1
+  rank (at.Close how) = 0
 
 module _ {R P T : Type 0} where
   -- the opening state
@@ -60,32 +115,34 @@ module _ {R P T : Type 0} where
   abbrev pub replied : Reply R P T → State R P T → State R P T
   replied r s = record { size = s.size; input = s.input; ended = s.ended; replies = s.replies ++ r ∷ []; past = s.past }
 
-  -- what is left, by where it stands: `h` goes on at a frame, `k` after a message with its actions, `r` at the next
+  -- what a connection that is out of memory does last
+  abbrev pub last : Needs R P T
+  last = Write (disconnect NO_MEMORY) ∷ Close (closings.Ended NO_MEMORY) ∷ []
+
+  -- what is left, by where it stands and what it holds: `k` goes on after a message with its actions, `r` at the next
   -- message, `f` at the next frame
-  abbrev pub left_at : Stage R P T → (Frame → Replies R P T → Needs R P T) → Next R P T
+  abbrev pub left_at : Stage R P → Option (Hold T) → Next R P T
       → (Replies R P T → Needs R P T) → (Replies R P T → Needs R P T) → Replies R P T → Needs R P T
-  left_at at.Bytes h k r f later = f later
-  left_at (at.Framed frame) h k r f later = h frame later
-  left_at at.Ready h k r f later = r later
-  left_at (at.Look id key request) h k r f later = Look key.app ∷ looked id key request k later
-  left_at (at.Enter id key request rules life) h k r f later = Enter key ∷ entered id request rules life k later
-  left_at (at.Entering id request rules life) h k r f later = entered id request rules life k later
-  left_at (at.Begin id request rules hold) h k r f later = Begin rules request ∷ begun id hold k later
-  left_at (at.Begun id hold) h k r f later = begun id hold k later
-  left_at (at.Park id hold half) h k r f later = Park hold.ticket hold.life half ∷ k (judged id None) later
-  left_at (at.Leave id ticket verdict) h k r f later = Leave ticket ∷ k (judged id (Some verdict)) later
-  left_at (at.Retire id half) h k r f later = Retire half ∷ k (judged id None) later
-  left_at (at.Retiring id) h k r f later = k (judged id None) later
-  left_at (at.Resume id key response) h k r f later = Resume key ∷ resumed id response k later
-  left_at (at.Resuming id response) h k r f later = resumed id response k later
-  left_at (at.Finish id half response) h k r f later = Finish half response ∷ finished id k later
-  left_at (at.Finishing id) h k r f later = finished id k later
-  left_at (at.Write bytes None) h k r f later = Write bytes ∷ f later
-  left_at (at.Write bytes (Some how)) h k r f later = Write bytes ∷ Close how ∷ []
-  left_at (at.LastLeave ticket) h k r f later =
-      Leave ticket ∷ Write (disconnect NO_MEMORY) ∷ Close (closings.Ended NO_MEMORY) ∷ []
-  left_at at.LastWrite h k r f later = Write (disconnect NO_MEMORY) ∷ Close (closings.Ended NO_MEMORY) ∷ []
-  left_at (at.Close how) h k r f later = Close how ∷ []
+  left_at at.Bytes hold k r f later = f later
+  left_at at.Ready hold k r f later = r later
+  left_at (at.Look id key request) hold k r f later = Look key.app ∷ looked id key request k later
+  left_at (at.Enter id key request rules life) hold k r f later = Enter key ∷ entered id request rules life k later
+  left_at (at.Entering id request rules life) hold k r f later = entered id request rules life k later
+  left_at (at.Begin id request rules) hold k r f later = Begin rules request ∷ begun id hold k later
+  left_at (at.Begun id) hold k r f later = begun id hold k later
+  left_at (at.Park id half) hold k r f later = put_by hold half ∷ k (judged id None) later
+  left_at (at.Leave id verdict) hold k r f later = leaves hold ++ k (judged id (Some verdict)) later
+  left_at (at.Retire id half) hold k r f later = Retire half ∷ k (judged id None) later
+  left_at (at.Retiring id) hold k r f later = k (judged id None) later
+  left_at (at.Resume id key response) hold k r f later = Resume key ∷ resumed id response k later
+  left_at (at.Resuming id response) hold k r f later = resumed id response k later
+  left_at (at.Finish id half response) hold k r f later = Finish half response ∷ finished id k later
+  left_at (at.Finishing id) hold k r f later = finished id k later
+  left_at (at.Write bytes None) hold k r f later = Write bytes ∷ f later
+  left_at (at.Write bytes (Some how)) hold k r f later = Write bytes ∷ Close how ∷ []
+  left_at at.LastLeave hold k r f later = leaves hold ++ last
+  left_at at.LastWrite hold k r f later = last
+  left_at (at.Close how) hold k r f later = Close how ∷ []
 
   -- with what is unread, whether the input has ended by then, and the replies that come yet
   abbrev pub left_with : ConnView R P T → List ℕ → Bool → Replies R P T → Needs R P T
@@ -93,18 +150,11 @@ module _ {R P T : Type 0} where
       let f = needs_from {R = R} {P = P} {T = T} c.size c.agreed unread ended in
       let r = λ (actions : List Action).
       messages {R = R} {P = P} {T = T} c.left actions (answer (limit_of c.size c.agreed) c.stream c.frame f) in
-      left_at c.stage
-      (any_frame {R = R} {P = P} {T = T} c.size c.agreed (λ agreed. needs_from c.size agreed unread ended))
-      (λ actions. r (c.actions ++ actions)) (r c.actions) f
+      left_at c.stage c.hold (λ actions. r (c.actions ++ actions)) (r c.actions) f
 
   -- with the input that comes yet
   abbrev pub left_of : ConnView R P T → List ℕ → Bool → Replies R P T → Needs R P T
   left_of c more ended = left_with c (c.unread ++ more) ended
-
-  -- nothing comes after the end of an input at which it closed
-  abbrev pub hears : Stage R P T → Bool → Bool
-  hears (at.Close how) ended = not ended
-  hears stage ended = true
 
   -- however it goes on, the needs are those that are done, and then those that are left
   pub record Going (c : ConnView R P T) (s : State R P T) : Type 0 where
@@ -125,18 +175,19 @@ module _ {R P T : Type 0} where
   spent_in (Leave ticket ∷ past) = ticket ∷ spent_in past
   spent_in (n ∷ past) = spent_in past
 
-  abbrev pub held_at : Stage R P T → List T
-  held_at (at.Begin id request rules hold) = held_by hold
-  held_at (at.Begun id hold) = held_by hold
-  held_at (at.Park id hold half) = hold.ticket ∷ []
-  held_at (at.Leave id ticket verdict) = ticket ∷ []
-  held_at (at.LastLeave ticket) = ticket ∷ []
-  held_at stage = []
-
   -- it goes on as the definition does, and holds the ticket that is open
   pub record Plain (c : ConnView R P T) (s : State R P T) : Type 0 where
     pub going : Going c s
-    pub tickets : tickets_in s.replies ≡ spent_in s.past ++ held_at c.stage
+    pub tickets : tickets_in s.replies ≡ spent_in s.past ++ held_by c.hold
+    pub ended : c.ended ≡ s.ended
+
+  -- this frame was taken off, and it goes on at it
+  pub record Framed (f : Frame) (c : ConnView R P T) (s : State R P T) : Type 0 where
+    pub is : (more : List ℕ) (ends : Bool) (later : Replies R P T) →
+        trace s.size (s.input ++ more) (ends || s.ended) (s.replies ++ later)
+        ≡ s.past ++ any_frame c.size c.agreed
+        (λ agreed. needs_from c.size agreed (c.unread ++ more) (ends || c.ended)) f later
+    pub tickets : tickets_in s.replies ≡ spent_in s.past ++ held_by c.hold
     pub ended : c.ended ≡ s.ended
 
   -- A broken trace: a prefix of the trace, then each ticket that is open is left, DISCONNECT 13 is written,
@@ -145,24 +196,17 @@ module _ {R P T : Type 0} where
     pub front : Needs R P T
     pub rest : Needs R P T
     pub whole_is : whole ≡ front ++ rest
-    pub is : needs ≡ front ++ (map Leave (drop (length (spent_in front)) (tickets_in replies))
-        ++ Write (disconnect NO_MEMORY) ∷ Close (closings.Ended NO_MEMORY) ∷ [])
+    pub is : needs ≡ front ++ (map Leave (drop (length (spent_in front)) (tickets_in replies)) ++ last)
 
   -- what is left of one
-  abbrev pub ending : Stage R P T → Needs R P T
-  ending (at.LastLeave ticket) = Leave ticket ∷ Write (disconnect NO_MEMORY) ∷ Close (closings.Ended NO_MEMORY) ∷ []
-  ending at.LastWrite = Write (disconnect NO_MEMORY) ∷ Close (closings.Ended NO_MEMORY) ∷ []
-  ending (at.Close how) = Close how ∷ []
-  ending stage = []
-
-  abbrev pub IsEnding : Stage R P T → Type 0
-  IsEnding (at.LastLeave ticket) = Unit {0}
-  IsEnding at.LastWrite = Unit {0}
-  IsEnding (at.Close how) = Unit {0}
-  IsEnding stage = ⊥
+  abbrev pub ending : Stage R P → Option (Hold T) → Needs R P T
+  ending at.LastLeave hold = leaves hold ++ last
+  ending at.LastWrite hold = last
+  ending (at.Close how) hold = Close how ∷ []
+  ending stage hold = []
 
   pub record Broken (c : ConnView R P T) (s : State R P T) : Type 0 where
-    pub trace_is : IsBroken (trace s.size s.input s.ended s.replies) s.replies (s.past ++ ending c.stage)
+    pub trace_is : IsBroken (trace s.size s.input s.ended s.replies) s.replies (s.past ++ ending c.stage c.hold)
     pub ending_is : IsEnding c.stage
 
   -- whole, or broken: out of memory
@@ -171,14 +215,13 @@ module _ {R P T : Type 0} where
   StandsAs true c s = Broken c s
 
   -- it waits for bytes only where no head is whole and more may come
-  abbrev pub Waits : Stage R P T → ConnView R P T → Type 0
+  abbrev pub Waits : Stage R P → ConnView R P T → Type 0
   Waits at.Bytes c = (head_of (limit_of c.size c.agreed) c.unread ≡ NotYet) × (c.ended ≡ false)
-  Waits (at.LastLeave ticket) c = c.broken ≡ true
+  Waits at.LastLeave c = c.broken ≡ true
   Waits at.LastWrite c = c.broken ≡ true
   Waits at.Ready c = ⊥
-  Waits (at.Framed frame) c = ⊥
   Waits (at.Entering id request rules life) c = ⊥
-  Waits (at.Begun id hold) c = ⊥
+  Waits (at.Begun id) c = ⊥
   Waits (at.Retiring id) c = ⊥
   Waits (at.Resuming id response) c = ⊥
   Waits (at.Finishing id) c = ⊥
@@ -188,15 +231,6 @@ module _ {R P T : Type 0} where
   pub record Stands (c : ConnView R P T) (s : State R P T) : Type 0 where
     pub waits : Waits c.stage c
     pub stands : StandsAs c.broken c s
-
-  -- the values of a need were taken, and its answer was not given yet
-  abbrev pub IsTaken : Stage R P T → Type 0
-  IsTaken (at.Entering id request rules life) = Unit {0}
-  IsTaken (at.Begun id hold) = Unit {0}
-  IsTaken (at.Retiring id) = Unit {0}
-  IsTaken (at.Resuming id response) = Unit {0}
-  IsTaken (at.Finishing id) = Unit {0}
-  IsTaken stage = ⊥
 
   pub record Taken (c : ConnView R P T) (s : State R P T) : Type 0 where
     pub taken : IsTaken c.stage
@@ -221,11 +255,6 @@ module _ {R P T : Type 0} where
         → trace s.size (s.input ++ more) ends s.replies ≡ s.past ++ Close how ∷ []
     pub broke : c.broken ≡ true → IsBroken (trace s.size s.input s.ended s.replies) s.replies (s.past ++ Close how ∷ [])
 
-  -- at Close, and once it is out of memory, no more input is heard
-  abbrev pub is_open : Stage R P T → Bool
-  is_open (at.Close how) = false
-  is_open stage = true
-
   abbrev pub listens : ConnView R P T → Bool
   listens c = cond c.broken false (is_open c.stage)
 
@@ -239,30 +268,11 @@ module _ {R P T : Type 0} where
   shut c s =
       cond (listens c) (record { size = s.size; input = s.input; ended = true; replies = s.replies; past = s.past }) s
 
-  -- A bound on the calls until it needs bytes or closes: sixteen for each unread byte and each message that is left,
+  -- A bound on the calls until it needs bytes or closes: so many for each unread byte and each message that is left,
   -- and a number for the stage
-  abbrev pub rank : Stage R P T → ℕ
-  rank (at.Look id key request) = 12
-  rank (at.Enter id key request rules life) = 11
-  rank (at.Entering id request rules life) = 10
-  rank (at.Begin id request rules hold) = 9
-  rank (at.Begun id hold) = 8
-  rank (at.Resume id key response) = 10
-  rank (at.Resuming id response) = 9
-  rank (at.Finish id half response) = 8
-  rank (at.Finishing id) = 7
-  rank (at.Retire id half) = 7
-  rank (at.Retiring id) = 6
-  rank (at.Park id hold half) = 6
-  rank (at.Leave id ticket verdict) = 6
-  rank at.Ready = 5
-  rank (at.Framed frame) = 16 * (1 + length frame.payload)
-  rank (at.Write bytes None) = 4
-  rank at.Bytes = 3
-  rank (at.LastLeave ticket) = 2
-  rank (at.Write bytes (Some how)) = 1
-  rank at.LastWrite = 1
-  rank (at.Close how) = 0
-
   abbrev pub calls_left : ConnView R P T → ℕ
-  calls_left c = 16 * (length c.unread + length c.left) + rank c.stage
+  calls_left c = calls_each * (length c.unread + length c.left) + rank c.stage
+
+  -- the same where this frame was taken off
+  abbrev pub calls_at : Frame → ConnView R P T → ℕ
+  calls_at f c = calls_each * (length c.unread + length c.left + (1 + length f.payload))

@@ -1,10 +1,11 @@
 -- The plain connection: what it needs over its whole input, given the replies that it gets.
-use Rattle.std.specs.Prelude.{ℕ, zero, suc, ◌==◌, ◌||◌, Bool, true, false, List, [], ◌∷◌, ◌++◌, length, nat_lt, Option, Some, None, Result, Ok, Err, if◌then◌else◌, codes}
+use Rattle.std.specs.Prelude.{ℕ, zero, suc, ◌==◌, ◌||◌, Bool, true, false, List, [], ◌∷◌, ◌++◌, length, map, nat_lt, Option, Some, None, Result, Ok, Err, if◌then◌else◌}
 use Rattle.std.specs.Str.{bytes_eq}
 use Rattle.spop_data.specs.declared.value.Pair.{Pair}
 use Rattle.spop_frame.specs.Head.{Head, NotYet, Bad, Whole, head_of}
 use Rattle.spop_frame.specs.declared.frame.Frame.{Frame}
 use Rattle.spop_frame.specs.declared.kind.TheConstants.{HAPROXY_HELLO, HAPROXY_DISCONNECT, NOTIFY, AGENT_HELLO, AGENT_DISCONNECT, ACK}
+use Rattle.spop_frame.specs.declared.status.TheConstants.{INVALID, NORMAL, TOO_BIG}
 use Rattle.spop_hello.specs.Frames.{agent_hello, disconnect}
 use Rattle.spop_hello.specs.Terms.{terms_of}
 use Rattle.spop_hello.specs.declared.terms.Terms.{Terms}
@@ -12,10 +13,13 @@ use Rattle.spop_talk.specs.Ack.{ack, ack_body}
 use Rattle.spop_talk.specs.Reading.{messages_of}
 use Rattle.spop_talk.specs.declared.ack.Action.{Action}
 use Rattle.spop_talk.specs.declared.message.Message.{Message}
+use Rattle.spop_web.specs.Answer.{request_message, response_message}
 use Rattle.spop_web.specs.Reading.{first_bad}
 use Rattle.spop_web.specs.Request.{asked_of, request_rules}
 use Rattle.spop_web.specs.Response.{told_of, response_rules}
 use Rattle.spop_web.specs.Values.{given, identifier_in}
+use Rattle.spop_web.specs.declared.answer.AckError.{AckError}
+use Rattle.spop_web.specs.declared.answer.AckError.TheVariants as errors
 use Rattle.spop_web.specs.declared.argument.Arg.{Arg}
 use Rattle.spop_web.specs.declared.argument.Arg.TheVariants as arguments
 use Rattle.spop_web.specs.declared.request.Asked.{Asked}
@@ -29,7 +33,6 @@ use Rattle.conn_core.specs.declared.need.Closing as closing
 use Rattle.conn_core.specs.declared.need.Closing.TheVariants as closings
 use Rattle.conn_core.specs.declared.outcome.Outcome.TheVariants as outcomes
 use Rattle.conn_core.specs.declared.stage.Hold.{Hold}
-use Rattle.conn_core.specs.declared.status.TheConstants.{INVALID, NORMAL, NOT_PARKED, TOO_BIG, UNKNOWN_APP}
 use Rattle.conn_core.specs.Outcome.{actions_of}
 
 -- R is what stands for a set of rules, P a request that is half judged, T a ticket
@@ -51,7 +54,7 @@ pub data Reply (R P T : Type 0) : Type 0 where
   Found : R → Settings → Reply R P T
   UnknownApp : Reply R P T
   Entered : T → Reply R P T
-  Refused : ℕ → Reply R P T  -- with the error that the ACK shows: 2, 3 or 6
+  Refused : AckError → Reply R P T  -- IdInUse, TableFull or Worn
   Interrupted : Verdict → Reply R P T
   Goes : P → Reply R P T
   Resumed : P → Reply R P T
@@ -68,15 +71,8 @@ Replies R P T = List (Reply R P T)
 abbrev pub Next : Type 0 → Type 0 → Type 0 → Type 0
 Next R P T = List Action → Replies R P T → Needs R P T
 
--- the messages that are answered, by their names
-abbrev pub request_name : List ℕ
-request_name = codes "coraza-req"
-
-abbrev pub response_name : List ℕ
-response_name = codes "coraza-res"
-
 -- the actions of a message with that identifier: an error, or what a judgement gave
-abbrev pub failed : List ℕ → ℕ → List Action
+abbrev pub failed : List ℕ → AckError → List Action
 failed id error = actions_of (Some id) (outcomes.Failed error)
 
 abbrev pub judged : List ℕ → Option Verdict → List Action
@@ -85,6 +81,11 @@ judged id (Some verdict) = actions_of (Some id) (outcomes.Stopped verdict)
 
 abbrev pub refused : List Pair → Arg → List Action
 refused args bad = actions_of (identifier_in (given arguments.Id args)) (outcomes.Bad bad)
+
+-- the ticket that is held
+abbrev pub held_by : {T : Type 0} → Option (Hold T) → List T
+held_by None = []
+held_by (Some hold) = hold.ticket ∷ []
 
 -- the kinds of the client's HELLO and of what agents send
 abbrev pub is_misplaced : ℕ → Bool
@@ -102,13 +103,20 @@ module _ {R P T : Type 0} where
   abbrev pub refuse : ℕ → Needs R P T
   refuse status = Write (disconnect status) ∷ Close (closings.Ended status) ∷ []
 
+  -- the ticket of a request that entered the table is left
+  abbrev pub leaves : Option (Hold T) → Needs R P T
+  leaves hold = map Leave (held_by hold)
+
+  -- a request that passed is parked under its ticket, or is over where it did not enter
+  abbrev pub put_by : Option (Hold T) → P → Need R P T
+  put_by None half = Retire half
+  put_by (Some hold) half = Park hold.ticket hold.life half
+
   -- a request that is being judged, with what it holds where it entered the table
   abbrev pub begun : List ℕ → Option (Hold T) → Next R P T → Replies R P T → Needs R P T
-  begun id (Some entry) k (Interrupted verdict ∷ later) = Leave entry.ticket ∷ k (judged id (Some verdict)) later
-  begun id (Some entry) k (Goes half ∷ later) = Park entry.ticket entry.life half ∷ k (judged id None) later
-  begun id None k (Interrupted verdict ∷ later) = k (judged id (Some verdict)) later
-  begun id None k (Goes half ∷ later) = Retire half ∷ k (judged id None) later
-  begun id entry k other = []
+  begun id hold k (Interrupted verdict ∷ later) = leaves hold ++ k (judged id (Some verdict)) later
+  begun id hold k (Goes half ∷ later) = put_by hold half ∷ k (judged id None) later
+  begun id hold k other = []
 
   -- one that enters the table
   abbrev pub entered : List ℕ → Request → R → ℕ → Next R P T → Replies R P T → Needs R P T
@@ -119,7 +127,7 @@ module _ {R P T : Type 0} where
 
   -- one whose application is looked for; it enters the table where responses are judged
   abbrev pub looked : List ℕ → Key → Request → Next R P T → Replies R P T → Needs R P T
-  looked id key request k (UnknownApp ∷ later) = k (failed id UNKNOWN_APP) later
+  looked id key request k (UnknownApp ∷ later) = k (failed id errors.UnknownApp) later
   looked id key request k (Found rules settings ∷ later) =
       if settings.responses then Enter key ∷ entered id request rules settings.life k later
       else Begin rules request ∷ begun id None k later
@@ -139,7 +147,7 @@ module _ {R P T : Type 0} where
 
   -- one whose request is looked for
   abbrev pub resumed : List ℕ → Response → Next R P T → Replies R P T → Needs R P T
-  resumed id response k (NotParked ∷ later) = k (failed id NOT_PARKED) later
+  resumed id response k (NotParked ∷ later) = k (failed id errors.NotParked) later
   resumed id response k (Resumed half ∷ later) = Finish half response ∷ finished id k later
   resumed id response k other = []
 
@@ -153,8 +161,8 @@ module _ {R P T : Type 0} where
   -- a message, by its name; one of another name is passed over
   abbrev pub message : Message → Next R P T → Replies R P T → Needs R P T
   message m k replies =
-      if bytes_eq m.name request_name then request (first_bad request_rules m.args) m.args k replies
-      else (if bytes_eq m.name response_name then response (first_bad response_rules m.args) m.args k replies
+      if bytes_eq m.name request_message then request (first_bad request_rules m.args) m.args k replies
+      else (if bytes_eq m.name response_message then response (first_bad response_rules m.args) m.args k replies
       else k [] replies)
 
   -- the messages of a NOTIFY, after those that gave these actions

@@ -1,7 +1,8 @@
-ghost use Rattle.std.specs.Prelude.{◌≡◌, IfOk, Option, option_to_list, Some, true};
+ghost use Rattle.std.specs.Prelude.{◌≡◌, false, IfOk, IfSome, None, Option, option_to_list, Some, true};
 ghost use Rattle.conn_core.specs.Between.{IsBlank, starved};
 ghost use Rattle.conn_core.specs.Calls.{At, closing_of, kind_at};
-ghost use Rattle.conn_core.specs.Stands.{Closes, held_at, listens, opening, Stands, State, ticket_of, WaitsForBytes};
+ghost use Rattle.conn_core.specs.Stands.{Closes, Holds, is_held, listens, opening, Stands, State, WaitsForBytes};
+ghost use Rattle.conn_core.specs.Trace.{held_by};
 
 use crate::farewell::Farewell;
 use crate::stage::{Hold, Stage};
@@ -11,7 +12,6 @@ use spop_talk::{Action, Message};
 use std::alloc::Global;
 use std::collections::VecDeque;
 use std::marker::Model;
-use std::mem;
 use waf_plain::{NoMemory, Seq};
 
 /// One connection, as the agent's side of it. `R` is what stands for a set of rules, `P` a request
@@ -28,7 +28,9 @@ pub struct Conn<R, P, T> {
     pub(crate) agreed: Option<u32>,
     pub(crate) framer: Framer,
     pub(crate) ended: bool,
-    pub(crate) stage: Stage<R, P, T>,
+    pub(crate) stage: Stage<R, P>,
+    // of the request that is being judged, until it is parked or left
+    pub(crate) hold: Option<Hold<T>>,
     // the NOTIFY that is being answered: its stream and frame, the messages that are left, the actions so far
     pub(crate) stream: u64,
     pub(crate) frame: u64,
@@ -39,7 +41,7 @@ pub struct Conn<R, P, T> {
 }
 
 impl<R, P, T> Model for Conn<R, P, T> {
-    ghost use Rattle.conn_core.specs.Stands.{ConnView};
+    ghost use Rattle.conn_core.specs.Stands.{ConnView, Holds};
 
     ghost Value = { ConnView R P T };
 
@@ -49,12 +51,15 @@ impl<R, P, T> Model for Conn<R, P, T> {
       unread = c.framer.bytes;
       ended = c.ended;
       stage = c.stage;
+      hold = c.hold;
       stream = c.stream;
       frame = c.frame;
       left = c.left.items;
       actions = c.actions;
       broken = c.broken;
     } };
+
+    ghost invariant = { λ c. Holds c.stage c.hold };
 }
 
 impl<R, P, T> Conn<R, P, T> {
@@ -72,6 +77,7 @@ impl<R, P, T> Conn<R, P, T> {
             framer: Framer::new(alloc, size),
             ended: false,
             stage: Stage::Bytes,
+            hold: None,
             stream: 0,
             frame: 0,
             left: VecDeque::new(alloc),
@@ -90,12 +96,11 @@ impl<R, P, T> Conn<R, P, T> {
         match &self.stage {
             Stage::Bytes => Need::Bytes,
             Stage::Ready => Need::Bytes,
-            Stage::Framed(_) => Need::Bytes,
             Stage::Look { .. } => Need::Look,
             Stage::Enter { .. } | Stage::Entering { .. } => Need::Enter,
             Stage::Begin { .. } | Stage::Begun { .. } => Need::Begin,
             Stage::Park { .. } => Need::Park,
-            Stage::Leave { .. } | Stage::LastLeave(_) => Need::Leave,
+            Stage::Leave { .. } | Stage::LastLeave => Need::Leave,
             Stage::Retire { .. } | Stage::Retiring(_) => Need::Retire,
             Stage::Resume { .. } | Stage::Resuming { .. } => Need::Resume,
             Stage::Finish { .. } | Stage::Finishing(_) => Need::Finish,
@@ -115,6 +120,7 @@ impl<R, P, T> Conn<R, P, T> {
     /// How it closes, exactly at Close. It takes no memory.
     pub fn closing(&self) -> Option<Closing>
         ensures at { result ≡ closing_of self.now.stage }
+        ensures none { IfSome result (λ how. is_held self.now.hold ≡ false) }
         ensures trace { (s : State R P T) → Stands self.now s → (how : _) → result ≡ Some how
             → Closes self.now s how }
     {
@@ -124,24 +130,14 @@ impl<R, P, T> Conn<R, P, T> {
         }
     }
 
-    // Goes to a stage from one that holds nothing.
-    pub(crate) fn set(&mut self, stage: Stage<R, P, T>)
-        requires { IsBlank self.old.stage }
-        ensures { self.new ≡ record self.old { stage = stage } }
-    {
-        match mem::replace(&mut self.stage, stage) {
-            Stage::Bytes | Stage::Ready => {}
-            _ => unreachable!(),
-        }
-    }
-
     // Out of memory, with no ticket held.
     pub(crate) fn out_of_memory(&mut self)
         requires { IsBlank self.old.stage }
-        ensures { self.new ≡ starved self.old }
+        ensures none { self.old.hold ≡ None }
+        ensures next { self.new ≡ starved self.old }
     {
         self.broken = true;
-        self.set(Stage::LastWrite);
+        self.stage.set(Stage::LastWrite);
     }
 }
 
@@ -149,68 +145,17 @@ impl<R: Drop, P: Drop, T> Conn<R, P, T> {
     /// Lets the connection go, and hands out the ticket that it holds, which is to be given back. After
     /// Close it holds none.
     pub fn let_go(self) -> Option<T>
-        ensures { option_to_list result ≡ held_at self.stage }
+        ensures held { option_to_list result ≡ held_by self.hold }
+        ensures at { Holds self.stage self.hold }
     {
-        let Conn { stage, .. } = self;
-        ticket_in(stage)
+        let Conn { hold, .. } = self;
+        ticket_of(hold)
     }
-}
-
-// The ticket that a stage holds; all else is let go.
-pub(crate) fn ticket_in<R: Drop, P: Drop, T>(stage: Stage<R, P, T>) -> Option<T>
-    ensures { option_to_list result ≡ held_at stage }
-{
-    match stage {
-        Stage::Bytes | Stage::Ready | Stage::LastWrite | Stage::Close(_) => None,
-        Stage::Framed(frame) => freed(frame, None),
-        Stage::Look { id, key, request } => freed((id, key, request), None),
-        Stage::Enter {
-            id,
-            key,
-            request,
-            rules,
-            life: _,
-        } => freed(((id, key, request), rules), None),
-        Stage::Entering {
-            id,
-            request,
-            rules,
-            life: _,
-        } => freed((id, request, rules), None),
-        Stage::Begin {
-            id,
-            request,
-            rules,
-            hold,
-        } => freed((id, request, rules), ticket_of(hold)),
-        Stage::Begun { id, hold } => freed(id, ticket_of(hold)),
-        Stage::Park { id, hold, half } => freed((id, half), ticket_of(Some(hold))),
-        Stage::Leave {
-            id,
-            ticket,
-            verdict,
-        } => freed((id, verdict), Some(ticket)),
-        Stage::LastLeave(ticket) => Some(ticket),
-        Stage::Retire { id, half } => freed((id, half), None),
-        Stage::Retiring(id) | Stage::Finishing(id) => freed(id, None),
-        Stage::Resume { id, key, response } => freed((id, key, response), None),
-        Stage::Resuming { id, response } => freed((id, response), None),
-        Stage::Finish { id, half, response } => freed((id, half, response), None),
-        Stage::Write { bytes, then: _ } => freed(bytes, None),
-    }
-}
-
-// Lets a value go, and hands out the ticket that stood beside it.
-fn freed<A: Drop, T>(value: A, ticket: Option<T>) -> Option<T>
-    ensures { result ≡ ticket }
-{
-    drop(value);
-    ticket
 }
 
 // The ticket that is held.
 fn ticket_of<T>(hold: Option<Hold<T>>) -> Option<T>
-    ensures { result ≡ ticket_of hold }
+    ensures { option_to_list result ≡ held_by hold }
 {
     match hold {
         Some(Hold { ticket, life: _ }) => Some(ticket),

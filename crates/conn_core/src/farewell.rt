@@ -1,8 +1,8 @@
 ghost use Rattle.std.specs.Prelude.{◌≡◌, IfOk};
+ghost use Rattle.spop_frame.specs.declared.status.TheConstants.{NO_MEMORY};
 ghost use Rattle.spop_hello.specs.Frames.{disconnect};
-ghost use Rattle.conn_core.specs.declared.status.TheConstants.{NO_MEMORY};
 
-use crate::status;
+use spop_frame::status;
 use spop_hello::disconnect_frame;
 use std::alloc::Global;
 use std::marker::Model;
@@ -16,8 +16,8 @@ pub(crate) struct Farewell {
 
 impl Model for Farewell {
     ghost use Rattle.std.specs.Prelude.{◌≡◌, List, ℕ};
+    ghost use Rattle.spop_frame.specs.declared.status.TheConstants.{NO_MEMORY};
     ghost use Rattle.spop_hello.specs.Frames.{disconnect};
-    ghost use Rattle.conn_core.specs.declared.status.TheConstants.{NO_MEMORY};
 
     ghost Value = { List ℕ };
 

@@ -1,26 +1,26 @@
 ghost use Rattle.std.specs.Prelude.{◌≡◌, ◌<◌, false, true};
-ghost use Rattle.conn_core.specs.Calls.{ended_with, IsFinish, IsFinishing};
+ghost use Rattle.conn_core.specs.Calls.{ended_with, IsAt, Owes};
 ghost use Rattle.conn_core.specs.Stands.{calls_left, served, Stands, State, Taken};
 ghost use Rattle.conn_core.specs.Trace.{Finish};
 
 use crate::outcome::Outcome;
 use crate::stage::Stage;
-use crate::{Conn, EndedAnswer};
+use crate::{Conn, EndedAnswer, Need};
 use std::mem;
 use web_parts::Response;
 
 impl<R, P, T> Conn<R, P, T> {
     /// At Finish what was parked, and the response that is to be judged with it.
     pub fn take_finish(&mut self) -> (P, Response)
-        requires at { IsFinish self.old.stage }
-        ensures at { IsFinishing self.new.stage }
+        requires at { IsAt Need.Finish self.old.stage }
+        ensures at { Owes Need.Finish self.new.stage }
         ensures same { self.new.broken ≡ self.old.broken }
         ensures done { (s : State R P T) → Stands self.old s → Taken self.new (served (Finish result.0 result.1) s) }
         ensures fewer { calls_left self.new < calls_left self.old }
     {
         match mem::replace(&mut self.stage, Stage::Bytes) {
             Stage::Finish { id, half, response } => {
-                self.set(Stage::Finishing(id));
+                self.stage.set(Stage::Finishing(id));
                 (half, response)
             }
             _ => unreachable!(),
@@ -29,7 +29,7 @@ impl<R, P, T> Conn<R, P, T> {
 
     /// The answer to Finish, after its values were taken.
     pub fn give_ended(&mut self, answer: EndedAnswer)
-        requires at { IsFinishing self.old.stage }
+        requires at { Owes Need.Finish self.old.stage }
         requires whole { self.old.broken ≡ false }
         ensures next { (s : State R P T) → Taken self.old s → Stands self.new (ended_with answer s) }
         ensures broken { answer ≡ EndedAnswer.NoMemory → self.new.broken ≡ true }

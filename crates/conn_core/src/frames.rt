@@ -2,14 +2,14 @@
 ghost use Rattle.std.specs.Prelude.{◌≡◌, ◌<◌, ◌≤◌, [], false, IfOk, IsSomeAnd, List, None, Option, Some, true, ℕ};
 ghost use Rattle.spop_frame.specs.declared.kind.TheConstants.{HAPROXY_HELLO, NOTIFY};
 ghost use Rattle.spop_hello.specs.Frames.{agent_hello, disconnect, IsStatus};
-ghost use Rattle.conn_core.specs.Between.{after_write, ComesTo, GoesOn, IsBlank, leaving};
-ghost use Rattle.conn_core.specs.Stands.{calls_left};
+ghost use Rattle.conn_core.specs.Between.{after_write, ComesFrom, ComesTo, GoesOnAt, IsBlank, leaving};
+ghost use Rattle.conn_core.specs.Stands.{calls_at, calls_left};
 ghost use Rattle.conn_core.specs.Trace.{is_misplaced};
 
 use crate::stage::Stage;
-use crate::{Closing, Conn, status};
+use crate::{Closing, Conn};
 use spop_data::DataFault;
-use spop_frame::{Frame, kind};
+use spop_frame::{Frame, kind, status};
 use spop_hello::{Refuse, Terms, disconnect_frame, hello_frame, negotiate};
 use spop_talk::read_messages;
 use std::alloc::Global;
@@ -21,10 +21,9 @@ impl<R, P, T> Conn<R, P, T> {
     pub(crate) fn take(&mut self, frame: Frame) -> bool
         requires at { self.old.stage ≡ Stage.Bytes }
         requires whole { self.old.broken ≡ false }
-        ensures on { result ≡ true → (self.new ≡ self.old)
-            × (GoesOn (record self.old { stage = Stage.Framed frame }) self.new) }
-        ensures done { result ≡ false → ComesTo (record self.old { stage = Stage.Framed frame }) self.new }
-        ensures fewer { calls_left self.new < calls_left (record self.old { stage = Stage.Framed frame }) }
+        ensures on { result ≡ true → (self.new ≡ self.old) × GoesOnAt frame self.old self.new }
+        ensures done { result ≡ false → ComesFrom frame self.old self.new }
+        ensures fewer { calls_left self.new < calls_at frame self.old }
     {
         if frame.kind == kind::HAPROXY_DISCONNECT {
             self.write(
@@ -61,8 +60,8 @@ impl<R, P, T> Conn<R, P, T> {
         requires at { self.old.stage ≡ Stage.Bytes }
         requires whole { self.old.broken ≡ false }
         requires before { (self.old.agreed ≡ None) × (frame.kind ≡ HAPROXY_HELLO) }
-        ensures next { ComesTo (record self.old { stage = Stage.Framed frame }) self.new }
-        ensures fewer { calls_left self.new < calls_left (record self.old { stage = Stage.Framed frame }) }
+        ensures next { ComesFrom frame self.old self.new }
+        ensures fewer { calls_left self.new < calls_at frame self.old }
     {
         match negotiate(self.alloc, frame.payload.as_slice(), self.size) {
             Err(Refuse::Status(status)) => self.refuse(status),
@@ -84,8 +83,8 @@ impl<R, P, T> Conn<R, P, T> {
         requires at { self.old.stage ≡ Stage.Bytes }
         requires whole { self.old.broken ≡ false }
         requires past { IsSomeAnd self.old.agreed (λ x. frame.kind ≡ NOTIFY) }
-        ensures next { ComesTo (record self.old { stage = Stage.Framed frame }) self.new }
-        ensures fewer { calls_left self.new < calls_left (record self.old { stage = Stage.Framed frame }) }
+        ensures next { ComesFrom frame self.old self.new }
+        ensures fewer { calls_left self.new < calls_at frame self.old }
     {
         match read_messages(self.alloc, frame.payload.as_slice()) {
             Err(DataFault::NoMemory) => self.out_of_memory(),
@@ -95,7 +94,7 @@ impl<R, P, T> Conn<R, P, T> {
                 self.frame = frame.frame;
                 self.left = VecDeque::from(messages.into_vec());
                 self.actions = Seq::new(self.alloc);
-                self.set(Stage::Ready);
+                self.stage.set(Stage::Ready);
                 self.go_on();
             }
         }
@@ -124,7 +123,7 @@ impl<R, P, T> Conn<R, P, T> {
         ensures fewer { calls_left self.new ≤ calls_left (record self.old { stage = Stage.Write [] then }) }
     {
         match bytes {
-            Ok(bytes) => self.set(Stage::Write { bytes, then }),
+            Ok(bytes) => self.stage.set(Stage::Write { bytes, then }),
             Err(_) => self.out_of_memory(),
         }
     }
@@ -137,7 +136,7 @@ impl<R, P, T> Conn<R, P, T> {
         ensures fewer { calls_left self.new < calls_left (record self.old { stage = Stage.Write [] then }) }
     {
         match then {
-            Some(closing) => self.set(Stage::Close(closing)),
+            Some(closing) => self.stage.set(Stage::Close(closing)),
             None => self.settle(),
         }
     }

@@ -2,12 +2,11 @@
 ghost use Rattle.std.specs.Prelude.{◌≡◌, ◌+◌, ◌*◌, ◌<◌, ◌≤◌, ◌++◌, false, length, List, true, ℕ};
 ghost use Rattle.spop_frame.specs.Head.{head_of, NotYet};
 ghost use Rattle.conn_core.specs.Between.{AtNextFrame, ComesTo};
-ghost use Rattle.conn_core.specs.Stands.{calls_left, fed, is_open, listens, Plain, shut, Stands, State};
+ghost use Rattle.conn_core.specs.Stands.{calls_each, calls_left, fed, is_open, listens, Plain, shut, Stands, State};
 ghost use Rattle.conn_core.specs.Stands.{StillTaken, Taken, TakenOrLost};
 ghost use Rattle.conn_core.specs.Trace.{limit_of};
 
-use crate::conn::ticket_in;
-use crate::stage::Stage;
+use crate::stage::{Stage, is_held};
 use crate::{Closing, Conn};
 use spop_frame::Next;
 use std::mem;
@@ -22,7 +21,7 @@ impl<R: Drop, P: Drop, T> Conn<R, P, T> {
         ensures taken { (s : State R P T) → Taken self.old s
             → TakenOrLost self.old self.new (fed self.old piece.now s) }
         ensures deaf { listens self.old ≡ false → self.new ≡ self.old }
-        ensures fewer { calls_left self.new ≤ calls_left self.old + 16 * length piece.now }
+        ensures fewer { calls_left self.new ≤ calls_left self.old + calls_each * length piece.now }
     {
         if self.broken {
             return;
@@ -68,11 +67,12 @@ impl<R: Drop, P: Drop, T> Conn<R, P, T> {
         ensures broken { self.new.broken ≡ true }
         ensures fewer { calls_left self.new ≤ calls_left self.old }
     {
-        let ticket = ticket_in(mem::replace(&mut self.stage, Stage::Bytes));
+        drop(mem::replace(&mut self.stage, Stage::Bytes));
         self.broken = true;
-        match ticket {
-            Some(ticket) => self.set(Stage::LastLeave(ticket)),
-            None => self.set(Stage::LastWrite),
+        if is_held(&self.hold) {
+            self.stage.set(Stage::LastLeave);
+        } else {
+            self.stage.set(Stage::LastWrite);
         }
     }
 }
@@ -131,10 +131,10 @@ impl<R, P, T> Conn<R, P, T> {
             return;
         }
         if self.framer.held() == 0 {
-            self.set(Stage::Close(Closing::Done));
+            self.stage.set(Stage::Close(Closing::Done));
             return;
         }
-        self.set(Stage::Close(Closing::CutShort));
+        self.stage.set(Stage::Close(Closing::CutShort));
     }
 
     // The longest frame that is taken now.

@@ -1,10 +1,10 @@
 ghost use Rattle.std.specs.Prelude.{◌≡◌, ◌<◌};
-ghost use Rattle.conn_core.specs.Calls.{HasKey, IsEnter, IsEntering, IsResume, IsResuming};
+ghost use Rattle.conn_core.specs.Calls.{HasKey, IsAt, Owes};
 ghost use Rattle.conn_core.specs.Stands.{calls_left, served, Stands, State, Taken};
 ghost use Rattle.conn_core.specs.Trace.{Enter, Resume};
 
-use crate::Conn;
 use crate::stage::Stage;
+use crate::{Conn, Need};
 use hall_core::Key;
 use std::mem;
 
@@ -14,11 +14,11 @@ impl<R, P, T> Conn<R, P, T> {
     pub fn take_key(&mut self) -> Key
         requires at { HasKey self.old.stage }
         ensures same { self.new.broken ≡ self.old.broken }
-        ensures entering { IsEnter self.old.stage → IsEntering self.new.stage }
-        ensures entered { IsEnter self.old.stage → (s : State R P T) → Stands self.old s
+        ensures entering { IsAt Need.Enter self.old.stage → Owes Need.Enter self.new.stage }
+        ensures entered { IsAt Need.Enter self.old.stage → (s : State R P T) → Stands self.old s
             → Taken self.new (served (Enter result) s) }
-        ensures resuming { IsResume self.old.stage → IsResuming self.new.stage }
-        ensures resumed { IsResume self.old.stage → (s : State R P T) → Stands self.old s
+        ensures resuming { IsAt Need.Resume self.old.stage → Owes Need.Resume self.new.stage }
+        ensures resumed { IsAt Need.Resume self.old.stage → (s : State R P T) → Stands self.old s
             → Taken self.new (served (Resume result) s) }
         ensures fewer { calls_left self.new < calls_left self.old }
     {
@@ -30,7 +30,7 @@ impl<R, P, T> Conn<R, P, T> {
                 rules,
                 life,
             } => {
-                self.set(Stage::Entering {
+                self.stage.set(Stage::Entering {
                     id,
                     request,
                     rules,
@@ -39,7 +39,7 @@ impl<R, P, T> Conn<R, P, T> {
                 key
             }
             Stage::Resume { id, key, response } => {
-                self.set(Stage::Resuming { id, response });
+                self.stage.set(Stage::Resuming { id, response });
                 key
             }
             _ => unreachable!(),

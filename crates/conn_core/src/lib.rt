@@ -19,7 +19,6 @@ mod conn;
 mod farewell;
 mod need;
 mod stage;
-mod status;
 
 // from its input to the next need
 mod frames;

@@ -1,16 +1,17 @@
 ghost use Rattle.std.specs.Prelude.{◌≡◌, ◌<◌, false, true};
-ghost use Rattle.conn_core.specs.Calls.{app_of, IsLook, looked_up};
+ghost use Rattle.conn_core.specs.Calls.{app_of, IsAt, looked_up};
 ghost use Rattle.conn_core.specs.Stands.{calls_left, Stands, State};
 
 use crate::outcome::Outcome;
 use crate::stage::Stage;
-use crate::{Conn, LookAnswer, status};
+use crate::{Conn, LookAnswer, Need};
+use spop_web::AckError;
 use std::mem;
 
 impl<R, P, T> Conn<R, P, T> {
     /// At Look the application that is asked for, empty where the message named none. It takes no memory.
     pub fn app(&self) -> &[u8]
-        requires { IsLook self.now.stage }
+        requires { IsAt Need.Look self.now.stage }
         ensures { result.now ≡ app_of self.now.stage }
     {
         match &self.stage {
@@ -21,7 +22,7 @@ impl<R, P, T> Conn<R, P, T> {
 
     /// The answer to Look.
     pub fn give_look(&mut self, answer: LookAnswer<R>)
-        requires at { IsLook self.old.stage }
+        requires at { IsAt Need.Look self.old.stage }
         requires whole { self.old.broken ≡ false }
         ensures next { (s : State R P T) → Stands self.old s
             → Stands self.new (looked_up (app_of self.old.stage) answer s) }
@@ -32,7 +33,7 @@ impl<R, P, T> Conn<R, P, T> {
             Stage::Look { id, key, request } => match answer {
                 LookAnswer::Found { rules, settings } => {
                     if settings.responses {
-                        self.set(Stage::Enter {
+                        self.stage.set(Stage::Enter {
                             id,
                             key,
                             request,
@@ -40,15 +41,10 @@ impl<R, P, T> Conn<R, P, T> {
                             life: settings.life,
                         });
                     } else {
-                        self.set(Stage::Begin {
-                            id,
-                            request,
-                            rules,
-                            hold: None,
-                        });
+                        self.stage.set(Stage::Begin { id, request, rules });
                     }
                 }
-                LookAnswer::UnknownApp => self.outcome(id, Outcome::Failed(status::UNKNOWN_APP)),
+                LookAnswer::UnknownApp => self.outcome(id, Outcome::Failed(AckError::UnknownApp)),
                 LookAnswer::NoMemory => self.out_of_memory(),
             },
             _ => unreachable!(),

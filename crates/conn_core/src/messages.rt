@@ -1,16 +1,17 @@
 //! The messages of a NOTIFY, one after the other, and the ACK that answers them.
-ghost use Rattle.std.specs.Prelude.{◌≡◌, ◌+◌, ◌<◌, ◌≤◌, [], bytes_eq, false, IfOk, IsErrOf, length, OnOk, Some, true, ℕ};
+ghost use Rattle.std.specs.Prelude.{◌≡◌, ◌+◌, ◌<◌, ◌≤◌, [], bytes_eq, false, IfOk, IsErrOf, length, None, OnOk, Some, true, ℕ};
 ghost use Rattle.spop_talk.specs.Ack.{ack, ack_body};
+ghost use Rattle.spop_web.specs.Answer.{request_message, response_message};
 ghost use Rattle.conn_core.specs.Between.{answered, asking, AtNextMessage, ComesTo, IsBlank, IsPast, starved, telling, with_message};
-ghost use Rattle.conn_core.specs.Stands.{calls_left};
-ghost use Rattle.conn_core.specs.Trace.{request_name, response_name};
+ghost use Rattle.conn_core.specs.Stands.{calls_each, calls_left};
 
+use crate::Conn;
 use crate::outcome::{Outcome, add_outcome};
 use crate::stage::Stage;
-use crate::{Conn, status};
 use hall_core::Key;
+use spop_frame::status;
 use spop_talk::{AckFault, Action, Message, write_ack};
-use spop_web::{ArgFault, Asked, Told, request_of, response_of};
+use spop_web::{ArgFault, Asked, REQUEST_MESSAGE, RESPONSE_MESSAGE, Told, request_of, response_of};
 use std::alloc::Global;
 use waf_plain::{Bytes, NoMemory, Seq};
 
@@ -41,10 +42,10 @@ impl<R, P, T> Conn<R, P, T> {
             self.acknowledge();
             return false;
         };
-        if is_named(&message, b"coraza-req") {
+        if is_named(&message, REQUEST_MESSAGE) {
             return self.take_request(&message);
         }
-        if is_named(&message, b"coraza-res") {
+        if is_named(&message, RESPONSE_MESSAGE) {
             return self.take_response(&message);
         }
         true
@@ -54,10 +55,10 @@ impl<R, P, T> Conn<R, P, T> {
     fn take_request(&mut self, message: &Message) -> bool
         requires at { self.old.stage ≡ Stage.Ready }
         requires whole { self.old.broken ≡ false }
-        requires named { bytes_eq message.now.name (request_name) ≡ true }
+        requires named { bytes_eq message.now.name request_message ≡ true }
         ensures on { result ≡ true → IsPast message.now self.old self.new }
         ensures done { result ≡ false → ComesTo (with_message message.now self.old) self.new }
-        ensures fewer { calls_left self.new < calls_left self.old + 16 }
+        ensures fewer { calls_left self.new < calls_left self.old + calls_each }
     {
         match request_of(self.alloc, &message.args) {
             Ok(asked) => {
@@ -76,11 +77,11 @@ impl<R, P, T> Conn<R, P, T> {
     fn take_response(&mut self, message: &Message) -> bool
         requires at { self.old.stage ≡ Stage.Ready }
         requires whole { self.old.broken ≡ false }
-        requires other { bytes_eq message.now.name (request_name) ≡ false }
-        requires named { bytes_eq message.now.name (response_name) ≡ true }
+        requires other { bytes_eq message.now.name request_message ≡ false }
+        requires named { bytes_eq message.now.name response_message ≡ true }
         ensures on { result ≡ true → IsPast message.now self.old self.new }
         ensures done { result ≡ false → ComesTo (with_message message.now self.old) self.new }
-        ensures fewer { calls_left self.new < calls_left self.old + 16 }
+        ensures fewer { calls_left self.new < calls_left self.old + calls_each }
     {
         match response_of(self.alloc, &message.args) {
             Ok(told) => {
@@ -100,11 +101,11 @@ impl<R, P, T> Conn<R, P, T> {
         requires at { self.old.stage ≡ Stage.Ready }
         requires whole { self.old.broken ≡ false }
         ensures next { ComesTo (asking asked self.old) self.new }
-        ensures fewer { calls_left self.new < calls_left self.old + 16 }
+        ensures fewer { calls_left self.new < calls_left self.old + calls_each }
     {
         let Asked { app, request } = asked;
         match two_copies(self.alloc, request.id.as_slice()) {
-            Ok((id, same)) => self.set(Stage::Look {
+            Ok((id, same)) => self.stage.set(Stage::Look {
                 id,
                 key: Key { app, id: same },
                 request,
@@ -118,11 +119,11 @@ impl<R, P, T> Conn<R, P, T> {
         requires at { self.old.stage ≡ Stage.Ready }
         requires whole { self.old.broken ≡ false }
         ensures next { ComesTo (telling told self.old) self.new }
-        ensures fewer { calls_left self.new < calls_left self.old + 16 }
+        ensures fewer { calls_left self.new < calls_left self.old + calls_each }
     {
         let Told { app, id, response } = told;
         match Bytes::copy(self.alloc, id.as_slice()) {
-            Ok(same) => self.set(Stage::Resume {
+            Ok(same) => self.stage.set(Stage::Resume {
                 id,
                 key: Key { app, id: same },
                 response,
@@ -147,12 +148,13 @@ impl<R, P, T> Conn<R, P, T> {
     fn add(&mut self, id: Option<Bytes>, outcome: Outcome) -> bool
         requires blank { IsBlank self.old.stage }
         requires whole { self.old.broken ≡ false }
+        ensures none { result ≡ false → self.old.hold ≡ None }
         ensures ok { result ≡ true → self.new ≡ answered id outcome self.old }
         ensures err { result ≡ false → self.new ≡ starved (record self.old { actions = self.new.actions }) }
     {
         match add_outcome(self.alloc, id, outcome, &mut self.actions) {
             Ok(()) => {
-                self.set(Stage::Ready);
+                self.stage.set(Stage::Ready);
                 true
             }
             Err(_) => {
@@ -172,7 +174,7 @@ impl<R, P, T> Conn<R, P, T> {
     {
         let limit = self.limit();
         match ack_bytes(self.alloc, self.stream, self.frame, &self.actions, limit) {
-            Ok(bytes) => self.set(Stage::Write { bytes, then: None }),
+            Ok(bytes) => self.stage.set(Stage::Write { bytes, then: None }),
             Err(AckFault::TooBig { .. }) => self.refuse(status::TOO_BIG),
             Err(AckFault::NoMemory) => self.out_of_memory(),
         }

@@ -2,11 +2,10 @@ ghost use Rattle.std.specs.Prelude.{◌≡◌, ◌++◌, OnOk};
 ghost use Rattle.conn_core.specs.Outcome.{act_actions, actions_of, done_actions, id_actions, number_action};
 ghost use Rattle.conn_core.specs.Outcome.{text_action, verdict_actions};
 
-use crate::status;
 use sec_ast::{Verdict, VerdictAct};
 use spop_data::Data;
 use spop_talk::Action;
-use spop_web::Arg;
+use spop_web::{AckError, AckVariable, Arg};
 use std::alloc::Global;
 use waf_plain::{Bytes, NoMemory, Seq};
 
@@ -16,9 +15,9 @@ pub enum Outcome {
     /// It was judged, and no rule interrupted it.
     Passed,
     Stopped(Verdict),
-    /// The error 1, 2, 3, 4 or 6.
-    Failed(u32),
-    /// Its first bad argument, which is error 5.
+    /// Any error but `BadArgument`.
+    Failed(AckError),
+    /// Its first bad argument, which is `BadArgument`.
     Bad(Arg),
 }
 
@@ -35,11 +34,16 @@ pub(crate) fn add_outcome(
     match outcome {
         Outcome::Passed => Ok(()),
         Outcome::Stopped(verdict) => add_verdict(alloc, verdict, actions),
-        Outcome::Failed(error) => add_number(alloc, b"error", error, actions),
+        Outcome::Failed(error) => add_number(alloc, AckVariable::Error, error.number(), actions),
         Outcome::Bad(arg) => {
             let name = Bytes::copy(alloc, arg.name())?;
-            add_text(alloc, b"data", name, actions)?;
-            add_number(alloc, b"error", status::BAD_ARGUMENT, actions)
+            add_text(alloc, AckVariable::Data, name, actions)?;
+            add_number(
+                alloc,
+                AckVariable::Error,
+                AckError::BadArgument.number(),
+                actions,
+            )
         }
     }
 }
@@ -49,7 +53,7 @@ fn add_id(alloc: Global, id: Option<Bytes>, actions: &mut Seq<Action>) -> Result
 {
     match id {
         None => Ok(()),
-        Some(id) => add_text(alloc, b"id", id, actions),
+        Some(id) => add_text(alloc, AckVariable::Id, id, actions),
     }
 }
 
@@ -58,7 +62,7 @@ fn add_verdict(alloc: Global, verdict: Verdict, actions: &mut Seq<Action>) -> Re
 {
     let Verdict { rule, act, status } = verdict;
     add_act(alloc, act, status, actions)?;
-    add_number(alloc, b"ruleid", rule, actions)
+    add_number(alloc, AckVariable::RuleId, rule, actions)
 }
 
 fn add_act(
@@ -74,7 +78,7 @@ fn add_act(
         VerdictAct::Drop => add_done(alloc, b"drop", status, actions),
         VerdictAct::Redirect(location) => {
             add_done(alloc, b"redirect", status, actions)?;
-            add_text(alloc, b"data", location, actions)
+            add_text(alloc, AckVariable::Data, location, actions)
         }
     }
 }
@@ -88,32 +92,32 @@ fn add_done(
     ensures { OnOk result (actions.new ≡ actions.old ++ done_actions word.now status) }
 {
     let word = Bytes::copy(alloc, word)?;
-    add_text(alloc, b"action", word, actions)?;
-    add_number(alloc, b"status", status, actions)
+    add_text(alloc, AckVariable::Action, word, actions)?;
+    add_number(alloc, AckVariable::Status, status, actions)
 }
 
 fn add_text(
     alloc: Global,
-    name: &[u8],
+    variable: AckVariable,
     text: Bytes,
     actions: &mut Seq<Action>,
 ) -> Result<(), NoMemory>
-    ensures { OnOk result (actions.new ≡ actions.old ++ text_action name.now text) }
+    ensures { OnOk result (actions.new ≡ actions.old ++ text_action variable text) }
 {
-    let name = Bytes::copy(alloc, name)?;
+    let name = Bytes::copy(alloc, variable.name())?;
     let value = Data::Text(text);
     actions.push(Action { name, value })
 }
 
 fn add_number(
     alloc: Global,
-    name: &[u8],
+    variable: AckVariable,
     number: u32,
     actions: &mut Seq<Action>,
 ) -> Result<(), NoMemory>
-    ensures { OnOk result (actions.new ≡ actions.old ++ number_action name.now number) }
+    ensures { OnOk result (actions.new ≡ actions.old ++ number_action variable number) }
 {
-    let name = Bytes::copy(alloc, name)?;
+    let name = Bytes::copy(alloc, variable.name())?;
     let value = Data::Uint32(number);
     actions.push(Action { name, value })
 }

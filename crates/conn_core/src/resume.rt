@@ -1,25 +1,26 @@
 //! The calls of Resume; its key is taken as that of Enter is.
 ghost use Rattle.std.specs.Prelude.{◌≡◌, ◌<◌, false};
-ghost use Rattle.conn_core.specs.Calls.{claim_of, IsResuming};
+ghost use Rattle.conn_core.specs.Calls.{claim_of, Owes};
 ghost use Rattle.conn_core.specs.Stands.{calls_left, replied, Stands, State, Taken};
 
 use crate::outcome::Outcome;
 use crate::stage::Stage;
-use crate::{Conn, status};
+use crate::{Conn, Need};
+use spop_web::AckError;
 use std::mem;
 
 impl<R, P, T> Conn<R, P, T> {
     /// The answer to Resume, after its key was taken: what was parked under it.
     pub fn give_claim(&mut self, answer: Option<P>)
-        requires at { IsResuming self.old.stage }
+        requires at { Owes Need.Resume self.old.stage }
         requires whole { self.old.broken ≡ false }
         ensures next { (s : State R P T) → Taken self.old s → Stands self.new (replied (claim_of answer) s) }
         ensures fewer { calls_left self.new < calls_left self.old }
     {
         match mem::replace(&mut self.stage, Stage::Bytes) {
             Stage::Resuming { id, response } => match answer {
-                Some(half) => self.set(Stage::Finish { id, half, response }),
-                None => self.outcome(id, Outcome::Failed(status::NOT_PARKED)),
+                Some(half) => self.stage.set(Stage::Finish { id, half, response }),
+                None => self.outcome(id, Outcome::Failed(AckError::NotParked)),
             },
             _ => unreachable!(),
         }

@@ -1,7 +1,11 @@
+ghost use Rattle.std.specs.Prelude.{◌≡◌, false, None, Some, true};
+ghost use Rattle.conn_core.specs.Between.{IsBlank};
+ghost use Rattle.conn_core.specs.Stands.{is_held};
+
 use crate::Closing;
 use hall_core::Key;
 use sec_ast::Verdict;
-use spop_frame::Frame;
+use std::mem;
 use waf_plain::Bytes;
 use web_parts::{Request, Response};
 
@@ -15,10 +19,8 @@ pub struct Hold<T> {
 // Where a connection stands. A name that ends in `-ing` or `-un` says that the values of the need were
 // taken. `id` is what the ACK answers with.
 #[derive(Drop)]
-pub enum Stage<R, P, T> {
+pub enum Stage<R, P> {
     Bytes,
-    // This frame was taken off. Only clauses speak of it.
-    Framed(Frame),
     // The next message is to be taken.
     Ready,
     Look {
@@ -43,20 +45,16 @@ pub enum Stage<R, P, T> {
         id: Bytes,
         request: Request,
         rules: R,
-        hold: Option<Hold<T>>,
     },
     Begun {
         id: Bytes,
-        hold: Option<Hold<T>>,
     },
     Park {
         id: Bytes,
-        hold: Hold<T>,
         half: P,
     },
     Leave {
         id: Bytes,
-        ticket: T,
         verdict: Verdict,
     },
     Retire {
@@ -83,8 +81,53 @@ pub enum Stage<R, P, T> {
         bytes: Bytes,
         then: Option<Closing>,
     },
-    // Out of memory: this ticket is to be left, and then the last DISCONNECT written.
-    LastLeave(T),
+    // Out of memory: the ticket is to be left, and then the last DISCONNECT written.
+    LastLeave,
     LastWrite,
     Close(Closing),
+}
+
+impl<R, P> Stage<R, P> {
+    // Goes to a stage from one that holds nothing.
+    pub(crate) fn set(&mut self, stage: Stage<R, P>)
+        requires { IsBlank self.old }
+        ensures { self.new ≡ stage }
+    {
+        match mem::replace(self, stage) {
+            Stage::Bytes | Stage::Ready => {}
+            _ => unreachable!(),
+        }
+    }
+}
+
+pub(crate) fn is_held<T>(hold: &Option<Hold<T>>) -> bool
+    ensures { result ≡ is_held hold.now }
+{
+    match hold {
+        Some(_) => true,
+        None => false,
+    }
+}
+
+// Holds it, where nothing was held.
+pub(crate) fn put<T>(hold: &mut Option<Hold<T>>, given: Hold<T>)
+    requires { is_held hold.old ≡ false }
+    ensures { hold.new ≡ Some given }
+{
+    match mem::replace(hold, Some(given)) {
+        None => {}
+        _ => unreachable!(),
+    }
+}
+
+// Hands out what is held.
+pub(crate) fn let_out<T>(hold: &mut Option<Hold<T>>) -> Hold<T>
+    requires { is_held hold.old ≡ true }
+    ensures was { hold.old ≡ Some result }
+    ensures none { hold.new ≡ None }
+{
+    match mem::replace(hold, None) {
+        Some(hold) => hold,
+        None => unreachable!(),
+    }
 }

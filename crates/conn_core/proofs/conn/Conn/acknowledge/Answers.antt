@@ -1,5 +1,6 @@
-use Rattle.std.proofs.Common.{◌≡◌, ◌<◌, ◌≤◌, length, refl}
+use Rattle.std.proofs.Common.{◌<◌, ◌≤◌, length, None, refl}
 use Rattle.spop_talk.specs.Ack.{ack, ack_body}
+use Rattle.conn_core.specs.declared.stage.Stage.TheVariants as at
 use Rattle.conn_core.specs.Trace.{limit_of}
 use Rattle.conn_core.proofs.Inner.{acked, fallen, too_big}
 use Rattle.conn_core.proofs.Steps.{stands}
@@ -9,8 +10,8 @@ pub returns-in-Ok-clause-next : goal.returns-in-Ok-clause-next
 returns-in-Ok-clause-next g c = λ s p.
     let self = c.args.self.now in
     let fits : length (ack_body self.stream self.frame self.actions) ≤ limit_of self.size self.agreed = rw (← c.limit-limit.ensures, ← c.self.view_is) c.in-Ok.ensures.fits in
-    let bytes : c.in-Ok.bytes ≡ ack self.stream self.frame self.actions = rw (← c.self.view_is) c.in-Ok.ensures.ok in
-    rw (c.set.ensures, bytes) (stands _ s c.requires.whole tt (acked self s c.requires.at c.requires.done fits p))
+    let next = stands (record self { stage = at.Write (ack self.stream self.frame self.actions) None }) s c.requires.whole tt (acked self s c.requires.at c.requires.done fits p) in
+    rw (c.set.ensures, c.in-Ok.ensures.ok) (rw (← c.self.view_is) at next)
 
 pub returns-in-Err-TooBig-clause-next : goal.returns-in-Err-TooBig-clause-next
 returns-in-Err-TooBig-clause-next g c = λ s p.
@@ -19,4 +20,4 @@ returns-in-Err-TooBig-clause-next g c = λ s p.
     c.refuse.ensures.next s (too_big self s c.requires.at c.requires.done big p)
 
 pub returns-in-Err-NoMemory-clause-next : goal.returns-in-Err-NoMemory-clause-next
-returns-in-Err-NoMemory-clause-next g c = λ s p. fallen c.args.self.now _ s (rw c.out_of_memory.ensures refl) (rw c.out_of_memory.ensures refl) (rw c.requires.at refl) p
+returns-in-Err-NoMemory-clause-next g c = λ s p. fallen c.args.self.now _ s (rw c.out_of_memory.ensures.next refl) (rw c.out_of_memory.ensures.next refl) c.out_of_memory.ensures.none p

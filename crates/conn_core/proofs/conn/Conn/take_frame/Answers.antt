@@ -8,7 +8,7 @@ use Rattle.conn_core.proofs.Inner.{fallen, head_bad, head_whole}
 use Rattle.conn_core.proofs.conn.Conn.take_frame.Goals as goal
 
 pub returns-in-NoMemory-clause-done : goal.returns-in-NoMemory-clause-done
-returns-in-NoMemory-clause-done g c = λ f s p. fallen c.args.self.now _ s (rw c.out_of_memory.ensures refl) (rw c.out_of_memory.ensures refl) (rw c.requires.at refl) p
+returns-in-NoMemory-clause-done g c = λ f s p. fallen c.args.self.now _ s (rw c.out_of_memory.ensures.next refl) (rw c.out_of_memory.ensures.next refl) (rw (← c.self.view_is) c.out_of_memory.ensures.none) p
 
 pub returns-in-Bad-clause-done : goal.returns-in-Bad-clause-done
 returns-in-Bad-clause-done g c = λ f s p.
@@ -57,6 +57,6 @@ returns-in-Frame-clause-fewer g c =
     let bytes : c.set_limit.new.self.bytes ≡ self.unread = ap (λ (h : framer.Held). h.bytes) c.set_limit.ensures ∙ ap (λ (h : ConnView g.row.R.Denot g.row.P.Denot g.row.T.Denot). h.unread) c.self.view_is in
     let head : head_of (limit_of self.size self.agreed) self.unread ≡ Whole c.in-Frame.frame c.next.new.self.bytes = rw (← limit, ← bytes) c.in-Frame.ensures.head in
     let less = shorter (limit_of self.size self.agreed) self.unread c.in-Frame.frame c.next.new.self.bytes head in
-    let fewer : calls_left c.take.new.self < 16 * (length c.next.new.self.bytes + length c.self.inside.left.items) + 16 * (1 + length c.in-Frame.frame.payload) = c.take.ensures.fewer in
+    let fewer : calls_left c.take.new.self < 16 * (length c.next.new.self.bytes + length c.self.inside.left.items + (1 + length c.in-Frame.frame.payload)) = c.take.ensures.fewer in
     let bound : calls_left self ≡ 16 * (length self.unread + length self.left) + 3 = rw c.requires.at refl in
     omega (arith, fewer, less, bound, ap (λ (h : ConnView g.row.R.Denot g.row.P.Denot g.row.T.Denot). length h.left) c.self.view_is)
