@@ -1,0 +1,5 @@
+pub mod Commands
+pub mod Numbers
+pub mod Opened
+pub mod Results
+pub mod Script

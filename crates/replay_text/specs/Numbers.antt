@@ -1,0 +1,22 @@
+-- Numbers in decimal digits.
+use Rattle.std.specs.Prelude.{ℕ, ◌+◌, ◌-◌, ◌*◌, ◌==◌, Bool, false, not, ◌&&◌, nat_le, List, [], ◌∷◌, length, Option, Some, None, if◌then◌else◌}
+use Rattle.std.specs.List.{fold, list_all}
+use Rattle.replay_text.specs.declared.numbers.TheConstants.{MOST_DIGITS}
+
+-- the value of a text of digits
+abbrev pub value_of : List ℕ → ℕ
+value_of text = fold (λ n b. n * 10 + (b - 48)) 0 text
+
+abbrev pub is_digit : ℕ → Bool
+is_digit b = nat_le 48 b && nat_le b 57
+
+-- nought, or up to `MOST_DIGITS` digits of which the first is another
+abbrev pub is_number : List ℕ → Bool
+is_number [] = false
+is_number (b ∷ []) = is_digit b
+is_number (b ∷ c ∷ rest) = not (b == 48) && list_all is_digit (b ∷ c ∷ rest)
+    && nat_le (length (b ∷ c ∷ rest)) MOST_DIGITS
+
+-- a number that is at most this
+abbrev pub number_to : ℕ → List ℕ → Option ℕ
+number_to most text = if is_number text && nat_le (value_of text) most then Some (value_of text) else None
