@@ -1,25 +1,92 @@
-use crate::answer::Answer;
-use crate::{given, memory};
+use crate::memory::{Pieces, mem_files, numbers, output};
 use agent_main::offline_main;
+use case_text::{Answer, items};
 use std::alloc::Global;
-use waf_plain::{Bytes, NoMemory};
+use waf_io::{MemFiles, MemSink};
+use waf_plain::{Bytes, NoMemory, Seq};
 
 /// `WORDS FILES INPUT FAILING`, then the exit status and the output. Words have a line end between them,
 /// names and contents of files a byte 0. The calls that fail are numbers behind `f` for a file that is
-/// read, `r` for a read of the input, and `w` for a write; `-` stands for none.
-pub fn answer(alloc: Global, given: &[Bytes], out: &mut Answer) -> Result<(), NoMemory> {
+/// read, `r` for a read of the input, and `w` for a write; `-` stands for none. The input comes whole, or
+/// in pieces of the size that stands behind `s`.
+pub fn answer(alloc: Global, given: &[Bytes], out: &mut Answer) {
     let [words, files, input, failing] = given else {
-        return out.plain(b"malformed");
+        return out.malformed();
     };
-    let words = given::parts(alloc, words.as_slice(), b'\n')?;
-    let failing = failing.as_slice();
-    let bad_files = memory::failing(alloc, failing, b'f')?;
-    let bad_reads = memory::failing(alloc, failing, b'r')?;
-    let bad_writes = memory::failing(alloc, failing, b'w')?;
-    let mut files = memory::files(alloc, files.as_slice(), bad_files)?;
-    let mut input = memory::input(alloc, input.as_slice(), bad_reads)?;
-    let mut output = memory::output(alloc, bad_writes)?;
-    let status = offline_main(alloc, words, &mut files, &mut input, &mut output);
-    out.number(u64::from(status))?;
-    out.quoted(output.bytes())
+    let calls = failing.as_slice();
+    match files_of(alloc, files.as_slice(), calls) {
+        Ok(mut files) => read(
+            alloc,
+            words.as_slice(),
+            &mut files,
+            input.as_slice(),
+            calls,
+            out,
+        ),
+        Err(NoMemory) => out.no_memory(),
+    }
+}
+
+fn read(
+    alloc: Global,
+    words: &[u8],
+    files: &mut MemFiles,
+    input: &[u8],
+    calls: &[u8],
+    out: &mut Answer,
+) {
+    match input_of(alloc, input, calls) {
+        Ok(mut input) => begin(alloc, words, files, &mut input, calls, out),
+        Err(NoMemory) => out.no_memory(),
+    }
+}
+
+fn begin(
+    alloc: Global,
+    words: &[u8],
+    files: &mut MemFiles,
+    input: &mut Pieces,
+    calls: &[u8],
+    out: &mut Answer,
+) {
+    match items(alloc, words, b'\n') {
+        Ok(words) => command(alloc, words, files, input, calls, out),
+        Err(NoMemory) => out.no_memory(),
+    }
+}
+
+fn files_of(alloc: Global, files: &[u8], calls: &[u8]) -> Result<MemFiles, NoMemory> {
+    let failing = numbers(alloc, calls, b'f')?;
+    mem_files(alloc, files, failing)
+}
+
+fn input_of(alloc: Global, input: &[u8], calls: &[u8]) -> Result<Pieces, NoMemory> {
+    let size = match numbers(alloc, calls, b's')?.as_slice() {
+        [size] => *size as usize,
+        _ => input.len(),
+    };
+    Pieces::new(alloc, input, size, numbers(alloc, calls, b'r')?)
+}
+
+fn output_of(alloc: Global, calls: &[u8]) -> Result<MemSink, NoMemory> {
+    let failing = numbers(alloc, calls, b'w')?;
+    output(alloc, failing)
+}
+
+fn command(
+    alloc: Global,
+    words: Seq<Bytes>,
+    files: &mut MemFiles,
+    input: &mut Pieces,
+    calls: &[u8],
+    out: &mut Answer,
+) {
+    match output_of(alloc, calls) {
+        Ok(mut output) => {
+            let status = offline_main(alloc, words, files, input, &mut output);
+            out.number(u64::from(status));
+            out.quoted(output.bytes())
+        }
+        Err(NoMemory) => out.no_memory(),
+    }
 }

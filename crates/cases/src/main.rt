@@ -1,52 +1,16 @@
 //! Cases as data: each case file has lines of given words and of the words that are wanted, which the
 //! public calls of the crates must answer. The program is given the names of case files, prints how
-//! many cases each has and a line for each case that differs, and fails where one does.
-//!
-//! A line is words with blanks between them: plain, or in quotes with `\"`, `\\`, `\n`, `\r`, `\t` and
-//! `\xHH`; `<NAME` stands for the content of the file NAME, as a word in quotes. Lines that are empty
-//! or begin with `#` are passed over.
+//! many cases each has and a line for each case that differs, and fails where one does. How a line is
+//! written is told by `case_text`.
 #![tactic(auto)]
 
-mod acks;
-mod addresses;
-mod answer;
-mod arguments;
-mod chains;
 mod commands;
-mod configuration;
 mod connections;
-mod directives;
-mod frames;
-mod given;
-mod hello;
 mod kind;
-mod limits;
-mod lines;
 mod memory;
-mod messages;
-mod names;
-mod operators;
-mod pairs;
-mod parts;
-mod parts_actions;
-mod patterns;
-mod report;
-mod rows;
-mod rule_files;
-mod rule_lines;
-mod rules;
-mod rules_halves;
-mod rules_phases;
 mod run;
-mod texts;
-mod transactions;
-mod transforms;
-mod typed_data;
-mod values;
-mod variables;
-mod variables_steps;
-mod varints;
-mod word;
+mod scripts;
+mod shown;
 
 use crate::run::run;
 use std::env;

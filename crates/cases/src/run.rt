@@ -1,15 +1,11 @@
-use crate::answer::Answer;
 use crate::kind::Kind;
-use crate::lines::{case_count, is_case};
-use crate::report::{At, Report, place_text};
-use crate::word::{LineFault, Word, words_of};
+use case_text::{
+    Answer, At, LineFault, MOST, Report, Word, case_count, filled_words, is_case, place_text,
+};
 use itoa::Buffer;
 use std::alloc::Global;
 use waf_io::{FileAnswer, Files, Sink, Wrote, write_whole};
 use waf_plain::{Bytes, NoMemory, Seq};
-
-// The longest file that is read: 64 MiB.
-const MOST: u64 = 67_108_864;
 
 /// Runs the cases of all these files, writes what came of them, and answers the exit status: 0, or 1
 /// where a case differs, a line is malformed, a file can't be read, or memory or the output failed.
@@ -105,17 +101,19 @@ fn run_line<F: Files>(
     files: &mut F,
     report: &mut Report,
 ) -> Result<(), NoMemory> {
-    match read_line(alloc, line, files) {
-        Err(LineFault::NoMemory) => Err(NoMemory),
+    match filled_words(alloc, line, files) {
         Ok(words) if words.as_slice().len() >= kind.given() => {
             run_case(alloc, at, kind, words.as_slice(), report)
         }
-        _ => {
-            let mut text = place_text(alloc, at)?;
-            text.append(b"malformed line")?;
-            report.tell(text.as_slice())
-        }
+        Err(LineFault::NoMemory) => Err(NoMemory),
+        _ => malformed(alloc, at, report),
     }
+}
+
+fn malformed(alloc: Global, at: At<'_>, report: &mut Report) -> Result<(), NoMemory> {
+    let mut text = place_text(alloc, at)?;
+    text.append(b"malformed line")?;
+    report.tell(text.as_slice())
 }
 
 fn run_case(
@@ -126,36 +124,17 @@ fn run_case(
     report: &mut Report,
 ) -> Result<(), NoMemory> {
     let (given, wanted) = words.split_at(kind.given().min(words.len()));
+    let came = answer(alloc, kind, given)?;
+    report.settle(alloc, at, came.words(), wanted)
+}
+
+fn answer(alloc: Global, kind: Kind, given: &[Word]) -> Result<Answer, NoMemory> {
     let given = bytes_of(alloc, given)?;
     let mut answer = Answer::new(alloc);
-    kind.answer(alloc, given.as_slice(), &mut answer)?;
-    report.settle(alloc, at, answer.words(), wanted)
-}
-
-// The words of a line, those that name a file with its content in their place.
-fn read_line<F: Files>(alloc: Global, line: &[u8], files: &mut F) -> Result<Seq<Word>, LineFault> {
-    let mut words = Seq::new(alloc);
-    for word in words_of(alloc, line)?.into_vec() {
-        words.push(filled(alloc, word, files)?)?;
-    }
-    Ok(words)
-}
-
-fn filled<F: Files>(alloc: Global, word: Word, files: &mut F) -> Result<Word, LineFault> {
-    match word {
-        Word::Quoted(bytes) => Ok(Word::Quoted(bytes)),
-        Word::Plain(bytes) => match bytes.as_slice() {
-            [b'<', name @ ..] => content_of(alloc, name, files),
-            _ => Ok(Word::Plain(bytes)),
-        },
-    }
-}
-
-fn content_of<F: Files>(alloc: Global, name: &[u8], files: &mut F) -> Result<Word, LineFault> {
-    match files.read_file(alloc, name, MOST) {
-        FileAnswer::Content(content) => Ok(Word::Quoted(content)),
-        FileAnswer::NoMemory => Err(LineFault::NoMemory),
-        _ => Err(LineFault::Malformed),
+    kind.answer(alloc, given.as_slice(), &mut answer);
+    match answer.is_whole() {
+        true => Ok(answer),
+        false => Err(NoMemory),
     }
 }
 

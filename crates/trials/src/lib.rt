@@ -1,12 +1,11 @@
-//! Tests alone, of what no case as data reaches: sources, sinks and files that fail, one call after the other,
-//! under the commands of the agent; the files of the system; and generic calls at types of the lowest crates.
-//! Cases as data are run by the crate `cases`.
+//! Tests alone, of what no case as data reaches: sources, sinks and files in memory, the files of the system, and
+//! generic calls at types of the lowest crates. Cases as data are run by the crate `cases`.
 #![tactic(auto)]
 
 #[cfg(test)]
-mod faults;
-#[cfg(test)]
 mod memory;
+#[cfg(test)]
+mod readings;
 #[cfg(test)]
 mod real;
 #[cfg(test)]

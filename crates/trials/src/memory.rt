@@ -38,16 +38,21 @@ fn sources(rt: HostRuntime) -> Result<(), Fail> {
     Ok(())
 }
 
-// Three pieces of two bytes: the second fails, or there is room for two pieces alone.
+// Three pieces of two bytes: the second fails, or, below, there is room for two pieces alone.
 #[test]
-fn sinks(rt: HostRuntime) -> Result<(), Fail> {
+fn sinks_that_fail(rt: HostRuntime) -> Result<(), Fail> {
     let alloc = rt.alloc();
     let mut failing = MemSink::new(alloc, 8, numbers(alloc, &[1])?)?;
     assert_eq!(rt; write_whole(&mut failing, b"ab"), Wrote::All);
     assert_eq!(rt; write_whole(&mut failing, b"cd"), Wrote::Failed);
     assert_eq!(rt; write_whole(&mut failing, b"ef"), Wrote::All);
     assert_eq!(rt; failing.bytes(), b"abef".as_slice());
-    let mut small = InfallibleSink::new(alloc, 4)?;
+    Ok(())
+}
+
+#[test]
+fn small_sinks(rt: HostRuntime) -> Result<(), Fail> {
+    let mut small = InfallibleSink::new(rt.alloc(), 4)?;
     assert_eq!(rt; small.write(b"ab"), Took::Bytes(2));
     assert_eq!(rt; small.write(b"cd"), Took::Bytes(2));
     assert_eq!(rt; small.bytes(), b"abcd".as_slice());
@@ -101,6 +106,13 @@ fn files(rt: HostRuntime) -> Result<(), Fail> {
     assert!(rt; same(&all.read_file(alloc, b"rules", 4), &text));
     assert!(rt; same(&all.read_file(alloc, b"rules", 3), &FileAnswer::TooLong));
     assert!(rt; same(&all.read_file(alloc, b"rule", 4), &FileAnswer::Absent));
+    Ok(())
+}
+
+#[test]
+fn files_that_fail(rt: HostRuntime) -> Result<(), Fail> {
+    let alloc = rt.alloc();
+    let text = content(alloc, b"text")?;
     let mut failing = MemFiles::new(one_file(alloc)?, numbers(alloc, &[0])?);
     assert!(rt; same(&failing.read_file(alloc, b"rules", 4), &FileAnswer::Failed));
     assert!(rt; same(&failing.read_file(alloc, b"rules", 4), &text));
