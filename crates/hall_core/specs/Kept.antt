@@ -49,6 +49,16 @@ module _ {P : Type 0} where
   claims n (OfExpire (Expired m key value)) = one (nat_eq m n)
   claims n _ = 0
 
+  -- the call parks this value under this number, and the reply claims it
+  abbrev pub ParksAs : ℕ → P → Call P → Type 0
+  ParksAs n value (Park t deadline v) = (t.number ≡ n) × (v ≡ value)
+  ParksAs n value _ = ⊥
+
+  abbrev pub ClaimsAs : ℕ → P → Reply P → Type 0
+  ClaimsAs n value (OfResume (Resumed m v)) = (m ≡ n) × (v ≡ value)
+  ClaimsAs n value (OfExpire (Expired m key v)) = (m ≡ n) × (v ≡ value)
+  ClaimsAs n value _ = ⊥
+
   abbrev pub sits : ℕ → Row P → Bool
   sits n row = cond (is_running row.stage) false (nat_eq row.number n)
 
@@ -104,6 +114,10 @@ module _ {P E : Type 0} (call_of : E → Call P) where
 
   abbrev pub parks_until_in : ℕ → ℕ → List E → ℕ
   parks_until_in n d list = total (λ e. parks_until n d (call_of e)) list
+
+  -- one of these entries parked the value under the number
+  abbrev pub WasParked : List E → ℕ → P → Type 0
+  WasParked log n value = (i : ℕ) × (e : E) × (get_elem? log i ≡ some e) × ParksAs n value (call_of e)
 
 module _ {P E : Type 0} (call_of : E → Call P) (reply_of : E → Reply P) where
   -- this list got the ticket and has not spent it

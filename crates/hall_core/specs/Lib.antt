@@ -2,9 +2,7 @@ pub mod Rows
 pub mod State
 pub mod Shard
 pub mod Step
+pub mod Acted
 pub mod Least
 pub mod Kept
-pub mod Totals
-pub mod Moves
-pub mod Laws
 pub mod Promised

@@ -21,6 +21,7 @@ mod row;
 mod shard;
 
 // the table
+mod acts;
 mod hall;
 mod laws;
 mod rows;
@@ -29,7 +30,9 @@ mod turns;
 
 pub use calls::{Call, Claim, Entry, Expiry, Reply, Ticket};
 pub use hall::Hall;
-pub use laws::{lists_of_callers_are_kept, parked_is_claimed_at_most_once};
+pub use laws::{
+    lists_of_callers_are_kept, parked_is_claimed_at_most_once, tickets_are_open_until_spent,
+};
 pub use row::{Row, Stage};
 pub use shard::shard_of;
 use waf_plain::Bytes;

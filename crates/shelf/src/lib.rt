@@ -1,14 +1,25 @@
 //! The applications that are published, and which of them a name means.
 //!
 //! ```text
-//! let place = find(&apps, b"shop");
+//! let mut shelf = Shelf::new(apps);
+//! let Look::Found { rules, generation, .. } = shelf.look(b"shop") else { .. };
+//! let Published::Generation(next) = shelf.publish(others) else { .. };
 //! ```
 //!
-//! `place_in` in `specs/Found.antt` says which one it is.
+//! `app_in` in `specs/Found.antt` says which one a name means; what each call does is the step in
+//! `specs/Step.antt`.
 #![tactic(auto)]
 
+mod acts;
 mod apps;
+mod calls;
+mod laws;
 mod lookup;
+mod shelf;
+mod turns;
 
 pub use apps::{App, Apps, Settings};
+pub use calls::{Call, Look, Published, Reply};
+pub use laws::lists_are_numbered;
 pub use lookup::find;
+pub use shelf::Shelf;

@@ -1,23 +1,39 @@
 -- The laws of what the table keeps of its callers' lists, and what follows for each legal history.
-use Rattle.std.proofs.Common.{◌≡◌, ◌≢◌, ℕ, zero, suc, ◌+◌, ◌≤◌, Bool, nat_eq, List, [], ◌∷◌, ◌++◌, append-nil, append_assoc, set, slice_set, refl, sym, ap, ◌∙◌, subst, ⊎_elim, arith, tests, eq-eqb, ne_eqb}
+use Rattle.std.proofs.Common.{◌≡◌, ◌≢◌, ℕ, zero, suc, ◌+◌, ◌≤◌, Bool, true, false, cond, nat_eq, find, Some, None, List, [], ◌∷◌, ◌++◌, append-nil, append_assoc, set, slice_set, refl, sym, ap, ◌∙◌, subst, ⊎_elim, arith, tests, eq-eqb, ne_eqb}
 use mathlib.Core.Logic.{dite}
 use native.Mathlib.Decide.{ℕ_discrete}
 use mathlib.Core.Option as maybe
 use lib.ListN.{get_elem?}
+use Rattle.hall_core.specs.declared.Key.{Key}
+use Rattle.hall_core.specs.declared.row.Row.{Row}
+use Rattle.hall_core.specs.declared.row.Stage.TheVariants.{Running}
+use Rattle.hall_core.specs.declared.calls.Ticket.{Ticket}
+use Rattle.hall_core.specs.declared.calls.Entry.TheVariants.{Entered}
 use Rattle.hall_core.specs.declared.calls.Call.{Call}
 use Rattle.hall_core.specs.declared.calls.Call.TheVariants.{Enter, Park, Leave, Resume, Expire, Count}
 use Rattle.hall_core.specs.declared.calls.Reply.{Reply}
-use Rattle.hall_core.specs.State.{State, IsQuiet}
-use Rattle.hall_core.specs.Step.{may, allows, after, starts, IsRunning}
+use Rattle.hall_core.specs.declared.calls.Reply.TheVariants.{OfEnter}
+use Rattle.hall_core.specs.State.{State, IsQuiet, runs}
+use Rattle.hall_core.specs.Step.{may, allows, after, starts, IsEntry, IsRunning}
 use Rattle.hall_core.specs.Kept.{total, one, once, gives, spends, parks, claims, running, sitting, keyed, sitting_until, parks_until_in, Kept, fits, IsOpen, given_in, spent_in, parks_in, claims_in, Legal, left_by}
-use Rattle.hall_core.specs.Totals.{total_set, total_snoc, total_at, total_le, alone, at_set, at_snoc, set_else}
-use Rattle.hall_core.specs.Moves.{moves, once_le, found_running, running_found, none_until}
+use Rattle.hall_core.proofs.Totals.{total_set, total_snoc, total_at, total_le, alone, at_set, at_snoc, set_else}
+use Rattle.hall_core.proofs.Moves.{moves, once_le, found_running, running_found, none_until}
 
 -- spending a ticket that is open
 spend_one : (n k a b : ℕ) → (n ≡ k → (a ≡ 1) × (b ≡ 0)) → b ≤ a → b + one (nat_eq k n) ≤ a
 spend_one n k a b h le = dite (ℕ_discrete k n)
     (λ e. let q = h (sym e) in subst (λ (z : Bool). b + one z ≤ a) (sym (eq-eqb k n e)) (let q0 = q.0 in let q1 = q.1 in omega arith))
     (λ ne. subst (λ (z : Bool). b + one z ≤ a) (sym (ne_eqb k n ne)) (omega arith))
+
+-- the number after those that were given is none of them
+not_given : (n given : ℕ) → n ≡ given + 1 → once n given ≡ 0
+not_given n given e = grind (arith, tests)
+
+test_itself : (n : ℕ) → nat_eq n n ≡ true
+test_itself n = eq-eqb n n refl
+
+itself : (n : ℕ) → one (nat_eq n n) ≡ 1
+itself n = ap one (test_itself n)
 
 parks_le : {P : Type 0} (n : ℕ) (c : Call P) → parks n c ≤ spends n c
 parks_le n (Enter key) = omega arith
@@ -26,6 +42,22 @@ parks_le n (Leave t) = omega arith
 parks_le n (Resume key) = omega arith
 parks_le n (Expire now) = omega arith
 parks_le n Count = omega arith
+
+module _ {P : Type 0} where
+  last_runs : (n : ℕ) (rows : List (Row P)) (row : Row P) → runs n row ≡ true → IsRunning (rows ++ row ∷ []) n
+  last_runs n [] row h = (row, ap (λ b. cond b (Some row) None) h)
+  last_runs n (x ∷ xs) row h = go (runs n x) refl (last_runs n xs row h)
+    where
+      go : (b : Bool) → runs n x ≡ b → IsRunning (xs ++ row ∷ []) n → IsRunning (x ∷ (xs ++ row ∷ [])) n
+      go true t rest = (x, ap (λ b. cond b (Some x) (find (runs n) (xs ++ row ∷ []))) t)
+      go false t rest = (rest.0, ap (λ b. cond b (Some x) (find (runs n) (xs ++ row ∷ []))) t ∙ rest.1)
+
+  -- after entering the ticket's row runs
+  pub entered_runs : (s t : State P) (key : Key) (ticket : Ticket) → allows s (Enter key) (OfEnter (Entered ticket)) → t ≡ after s (Enter key) (OfEnter (Entered ticket)) → IsRunning t.rows ticket.number
+  entered_runs s t key ticket a is =
+      let row : Row P = record { key = key; number = s.given + 1; stage = Running } in
+      let same : runs ticket.number row ≡ true = ap (λ n. runs n row) a.4 ∙ test_itself (s.given + 1) in
+      subst (λ (z : State P). IsRunning z.rows ticket.number) (sym is) (last_runs ticket.number s.rows row same)
 
 module _ {P E : Type 0} (call_of : E → Call P) (reply_of : E → Reply P) where
   -- a caller's own list after a call that fits it
@@ -140,6 +172,33 @@ module _ {P E : Type 0} (call_of : E → Call P) (reply_of : E → Reply P) wher
   claimed_once s log n z h =
       let k = along s [] log (kept_first s z) h in let a = k.given n in let b = once_le n (left_by call_of reply_of s log).given in let o = k.own 0 log refl n in let p = k.parked n in
       let q = total_le (λ e. parks n (call_of e)) (λ e. spends n (call_of e)) log (λ e. parks_le n (call_of e)) in (omega arith, omega arith, omega arith)
+
+  pub legal_last : (s : State P) (log : List E) (e : E) → Legal call_of reply_of s (log ++ e ∷ [])
+      → Legal call_of reply_of s log × may (left_by call_of reply_of s log) (call_of e) × allows (left_by call_of reply_of s log) (call_of e) (reply_of e)
+  legal_last s [] e h = (tt, h.0, h.1)
+  legal_last s (x ∷ xs) e h = let r = legal_last (after s (call_of x) (reply_of x)) xs e h.2 in ((h.0, h.1, r.0), r.1, r.2)
+
+  -- who entered has its ticket open
+  pub fresh_open : (s : State P) (log own : List E) (e : E) (key : Key) (t : Ticket) → starts s → Legal call_of reply_of s (log ++ e ∷ []) → call_of e ≡ Enter key → reply_of e ≡ OfEnter (Entered t)
+      → ((g : E → ℕ) → total g own ≤ total g log) → IsOpen call_of reply_of t.number (own ++ e ∷ [])
+  fresh_open s log own e key t z h asked got fewer =
+      let l = legal_last s log e h in let k = along s [] log (kept_first s z) l.0 in
+      let left : State P = left_by call_of reply_of s log in
+      let a : IsEntry left key (Entered t) = subst (λ c. allows left c (OfEnter (Entered t))) asked (subst (λ r. allows left (call_of e) r) got l.2) in
+      let none = not_given t.number left.given a.4 in let g = k.given t.number in let r = k.runs_open t.number in
+      let fewer_given = fewer (λ e. gives t.number (reply_of e)) in let fewer_spent = fewer (λ e. spends t.number (call_of e)) in
+      let all_given = total_snoc (λ e. gives t.number (reply_of e)) own e in let all_spent = total_snoc (λ e. spends t.number (call_of e)) own e in
+      let gives_it : gives t.number (reply_of e) ≡ 1 = ap (gives t.number) got ∙ itself t.number in
+      let spends_none : spends t.number (call_of e) ≡ 0 = ap (spends t.number) asked in (omega arith, omega arith)
+
+  -- a ticket that is open stays so in a call that does not spend it
+  pub stays_open : (s : State P) (lists : List (List E)) (i n : ℕ) (own : List E) (e : E) → Kept call_of reply_of s lists → get_elem? lists i ≡ maybe.some own → IsOpen call_of reply_of n own
+      → fits call_of reply_of own (call_of e) → may s (call_of e) → allows s (call_of e) (reply_of e) → spends n (call_of e) ≡ 0 → IsOpen call_of reply_of n (own ++ e ∷ [])
+  stays_open s lists i n own e k at was f m a spends_none =
+      let g = (kept_call s lists i own e k at f m a).given n in let least = once_le n (after s (call_of e) (reply_of e)).given in
+      let more = total_set (given_in reply_of n) lists i own (own ++ e ∷ []) at in let has = total_at (given_in reply_of n) lists i own at in
+      let given = total_snoc (λ e. gives n (reply_of e)) own e in let spent = total_snoc (λ e. spends n (call_of e)) own e in
+      let is_given = was.0 in let not_spent = was.1 in (omega arith, omega arith)
 
   until_along : (s : State P) (log : List E) (n d : ℕ) → Legal call_of reply_of s log
       → sitting_until n d s.rows + parks_until_in call_of n d log ≤ sitting_until n d (left_by call_of reply_of s log).rows + claims_in reply_of n log
