@@ -1,0 +1,4 @@
+mod Answering
+mod Moving
+mod Serving
+mod Standing

@@ -1,0 +1,112 @@
+//! What is done at each need of the host.
+ghost use Rattle.std.specs.Prelude.{◌≡◌, ◌<◌, List, Option, true, ℕ};
+ghost use Rattle.conn_core.specs.Calls.{At, kind_at};
+ghost use Rattle.conn_core.specs.Stands.{calls_left, Stands, State};
+ghost use Rattle.conn_loop.specs.Steps.{Acts, asks_host};
+
+use crate::Host;
+use conn_core::{Conn, Need};
+
+/// Does the next thing that the connection needs of its host.
+pub fn act<R: Drop, P: Drop, T, H: Host<R, P, T>>(conn: &mut Conn<R, P, T>, host: &mut H)
+    requires stands { (s : State R P T) × Stands conn.old s }
+    requires asks { asks_host (kind_at conn.old.stage) ≡ true }
+    ensures acts { (held : Option (List ℕ)) → Acts H.serves
+        conn.old conn.new (H.desk host.old) (H.desk host.new) held held }
+    ensures fewer { calls_left conn.new < calls_left conn.old }
+{
+    match conn.need() {
+        Need::Look => look(conn, host),
+        Need::Enter => enter(conn, host),
+        Need::Begin => begin(conn, host),
+        Need::Park => park(conn, host),
+        Need::Leave => leave(conn, host),
+        Need::Retire => retire(conn, host),
+        Need::Resume => resume(conn, host),
+        Need::Finish => finish(conn, host),
+        Need::Bytes | Need::Write | Need::Close => unreachable!(),
+    }
+}
+
+fn look<R, P, T, H: Host<R, P, T>>(conn: &mut Conn<R, P, T>, host: &mut H)
+    requires { At Need.Look conn.old.broken conn.old.stage }
+    ensures acts { (held : Option (List ℕ)) → Acts H.serves
+        conn.old conn.new (H.desk host.old) (H.desk host.new) held held }
+    ensures fewer { calls_left conn.new < calls_left conn.old }
+{
+    let answer = host.look(conn.app());
+    conn.give_look(answer);
+}
+
+fn enter<R: Drop, P, T, H: Host<R, P, T>>(conn: &mut Conn<R, P, T>, host: &mut H)
+    requires { At Need.Enter conn.old.broken conn.old.stage }
+    ensures acts { (held : Option (List ℕ)) → Acts H.serves
+        conn.old conn.new (H.desk host.old) (H.desk host.new) held held }
+    ensures fewer { calls_left conn.new < calls_left conn.old }
+{
+    let answer = host.enter(conn.take_key());
+    conn.give_entry(answer);
+}
+
+fn begin<R, P, T, H: Host<R, P, T>>(conn: &mut Conn<R, P, T>, host: &mut H)
+    requires { At Need.Begin conn.old.broken conn.old.stage }
+    ensures acts { (held : Option (List ℕ)) → Acts H.serves
+        conn.old conn.new (H.desk host.old) (H.desk host.new) held held }
+    ensures fewer { calls_left conn.new < calls_left conn.old }
+{
+    let (rules, request) = conn.take_begin();
+    let answer = host.begin(rules, request);
+    conn.give_begun(answer);
+}
+
+fn park<R, P, T, H: Host<R, P, T>>(conn: &mut Conn<R, P, T>, host: &mut H)
+    requires { At Need.Park conn.old.broken conn.old.stage }
+    ensures acts { (held : Option (List ℕ)) → Acts H.serves
+        conn.old conn.new (H.desk host.old) (H.desk host.new) held held }
+    ensures fewer { calls_left conn.new < calls_left conn.old }
+{
+    let (ticket, life, half) = conn.take_park();
+    host.park(ticket, life, half);
+}
+
+fn leave<R, P, T, H: Host<R, P, T>>(conn: &mut Conn<R, P, T>, host: &mut H)
+    requires { At Need.Leave conn.old.broken conn.old.stage }
+    ensures acts { (held : Option (List ℕ)) → Acts H.serves
+        conn.old conn.new (H.desk host.old) (H.desk host.new) held held }
+    ensures fewer { calls_left conn.new < calls_left conn.old }
+{
+    let ticket = conn.take_leave();
+    host.leave(ticket);
+}
+
+fn retire<R, P, T, H: Host<R, P, T>>(conn: &mut Conn<R, P, T>, host: &mut H)
+    requires { At Need.Retire conn.old.broken conn.old.stage }
+    ensures acts { (held : Option (List ℕ)) → Acts H.serves
+        conn.old conn.new (H.desk host.old) (H.desk host.new) held held }
+    ensures fewer { calls_left conn.new < calls_left conn.old }
+{
+    let half = conn.take_retire();
+    let memory = host.retire(half);
+    conn.give_retired(memory);
+}
+
+fn resume<R, P, T, H: Host<R, P, T>>(conn: &mut Conn<R, P, T>, host: &mut H)
+    requires { At Need.Resume conn.old.broken conn.old.stage }
+    ensures acts { (held : Option (List ℕ)) → Acts H.serves
+        conn.old conn.new (H.desk host.old) (H.desk host.new) held held }
+    ensures fewer { calls_left conn.new < calls_left conn.old }
+{
+    let answer = host.resume(conn.take_key());
+    conn.give_claim(answer);
+}
+
+fn finish<R, P, T, H: Host<R, P, T>>(conn: &mut Conn<R, P, T>, host: &mut H)
+    requires { At Need.Finish conn.old.broken conn.old.stage }
+    ensures acts { (held : Option (List ℕ)) → Acts H.serves
+        conn.old conn.new (H.desk host.old) (H.desk host.new) held held }
+    ensures fewer { calls_left conn.new < calls_left conn.old }
+{
+    let (half, response) = conn.take_finish();
+    let answer = host.finish(half, response);
+    conn.give_ended(answer);
+}
