@@ -2,6 +2,7 @@
 use Rattle.std.specs.Prelude.{ℕ, ◌^◌, ◌%◌, List, [], ◌∷◌, length, take, drop, ℤ, pos, negsuc, Bool, not, nat_lt, nat_le, nat_eq, if◌then◌else◌, Option, Some, None, bit_and}
 use Rattle.std.specs.Int.{cast_signed, w64}
 use Rattle.spop_varint.specs.Reading.{split_number, ◌>>=◌}
+use Rattle.spop_data.specs.declared.kind.TheConstants.{BINARY, BOOLEAN, FLAGS, INT32, INT64, IPV4, IPV4_LENGTH, IPV6, IPV6_LENGTH, NULL, STRING, TRUE, UINT32, UINT64}
 use Rattle.spop_data.specs.declared.value.Data as values
 use Rattle.spop_data.specs.declared.value.Data.TheVariants as types
 use Rattle.spop_data.specs.declared.value.Pair.{Pair}
@@ -48,12 +49,12 @@ uint64_at bytes = do
 
 unfoldable pub ipv4_at : List ℕ → Option (values.Data × List ℕ)
 ipv4_at bytes = do
-  address ← cut_at 4 bytes
+  address ← cut_at IPV4_LENGTH bytes
   Some (types.Ipv4 address.0, address.1)
 
 unfoldable pub ipv6_at : List ℕ → Option (values.Data × List ℕ)
 ipv6_at bytes = do
-  address ← cut_at 16 bytes
+  address ← cut_at IPV6_LENGTH bytes
   Some (types.Ipv6 address.0, address.1)
 
 unfoldable pub text_at : List ℕ → Option (values.Data × List ℕ)
@@ -66,28 +67,28 @@ binary_at bytes = do
   text ← counted_at bytes
   Some (types.Binary text.0, text.1)
 
--- flag bit 0x10
+-- the flag of a BOOLEAN
 abbrev pub flag_of : ℕ → Bool
-flag_of kind = not (nat_eq (bit_and kind 16) 0)
+flag_of kind = not (nat_eq (bit_and kind TRUE) 0)
 
 -- a value of the type of that number
 abbrev pub typed_at : ℕ → ℕ → List ℕ → Option (values.Data × List ℕ)
 typed_at code kind bytes =
-    if nat_eq code 0 then Some (types.Null, bytes)
-    else (if nat_eq code 1 then Some (types.Bool (flag_of kind), bytes)
-    else (if nat_eq code 2 then int32_at bytes
-    else (if nat_eq code 3 then uint32_at bytes
-    else (if nat_eq code 4 then int64_at bytes
-    else (if nat_eq code 5 then uint64_at bytes
-    else (if nat_eq code 6 then ipv4_at bytes
-    else (if nat_eq code 7 then ipv6_at bytes
-    else (if nat_eq code 8 then text_at bytes
-    else (if nat_eq code 9 then binary_at bytes
+    if nat_eq code NULL then Some (types.Null, bytes)
+    else (if nat_eq code BOOLEAN then Some (types.Bool (flag_of kind), bytes)
+    else (if nat_eq code INT32 then int32_at bytes
+    else (if nat_eq code UINT32 then uint32_at bytes
+    else (if nat_eq code INT64 then int64_at bytes
+    else (if nat_eq code UINT64 then uint64_at bytes
+    else (if nat_eq code IPV4 then ipv4_at bytes
+    else (if nat_eq code IPV6 then ipv6_at bytes
+    else (if nat_eq code STRING then text_at bytes
+    else (if nat_eq code BINARY then binary_at bytes
     else None)))))))))
 
 -- what the first byte names by its low four bits
 unfoldable pub value_at : ℕ → List ℕ → Option (values.Data × List ℕ)
-value_at kind bytes = typed_at (kind % 16) kind bytes
+value_at kind bytes = typed_at (kind % FLAGS) kind bytes
 
 abbrev pub data_at : List ℕ → Option (values.Data × List ℕ)
 data_at [] = None

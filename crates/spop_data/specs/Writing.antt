@@ -1,7 +1,8 @@
 -- The bytes that are written for a value, as functions: of its spellings the one without idle flags.
-use Rattle.std.specs.Prelude.{◌≡◌, ℕ, ◌^◌, ◌<◌, List, [], ◌∷◌, ◌++◌, length, if◌then◌else◌, FitsSigned}
+use Rattle.std.specs.Prelude.{◌≡◌, ℕ, ◌+◌, ◌^◌, ◌<◌, List, [], ◌∷◌, ◌++◌, length, if◌then◌else◌, FitsSigned}
 use Rattle.std.specs.Int.{cast_unsigned, w32, w64}
 use Rattle.spop_varint.specs.Writing.{spelling}
+use Rattle.spop_data.specs.declared.kind.TheConstants.{BINARY, BOOLEAN, INT32, INT64, IPV4, IPV4_LENGTH, IPV6, IPV6_LENGTH, NULL, STRING, TRUE, UINT32, UINT64}
 use Rattle.spop_data.specs.declared.value.Data as values
 use Rattle.spop_data.specs.declared.value.Data.TheVariants as types
 use Rattle.spop_data.specs.declared.value.Pair.{Pair}
@@ -15,16 +16,16 @@ abbrev pub counted : List ℕ → List ℕ
 counted text = number_bytes (length text) ++ text
 
 abbrev pub data_bytes : values.Data → List ℕ
-data_bytes types.Null = 0 ∷ []
-data_bytes (types.Bool b) = (if b then 17 else 1) ∷ []
-data_bytes (types.Int32 z) = 2 ∷ number_bytes (cast_unsigned w64 z)
-data_bytes (types.Uint32 n) = 3 ∷ number_bytes n
-data_bytes (types.Int64 z) = 4 ∷ number_bytes (cast_unsigned w64 z)
-data_bytes (types.Uint64 n) = 5 ∷ number_bytes n
-data_bytes (types.Ipv4 address) = 6 ∷ address
-data_bytes (types.Ipv6 address) = 7 ∷ address
-data_bytes (types.Text text) = 8 ∷ counted text
-data_bytes (types.Binary text) = 9 ∷ counted text
+data_bytes types.Null = NULL ∷ []
+data_bytes (types.Bool b) = (if b then BOOLEAN + TRUE else BOOLEAN) ∷ []
+data_bytes (types.Int32 z) = INT32 ∷ number_bytes (cast_unsigned w64 z)
+data_bytes (types.Uint32 n) = UINT32 ∷ number_bytes n
+data_bytes (types.Int64 z) = INT64 ∷ number_bytes (cast_unsigned w64 z)
+data_bytes (types.Uint64 n) = UINT64 ∷ number_bytes n
+data_bytes (types.Ipv4 address) = IPV4 ∷ address
+data_bytes (types.Ipv6 address) = IPV6 ∷ address
+data_bytes (types.Text text) = STRING ∷ counted text
+data_bytes (types.Binary text) = BINARY ∷ counted text
 
 abbrev pub pair_bytes : Pair → List ℕ
 pair_bytes p = counted p.name ++ data_bytes p.value
@@ -37,8 +38,8 @@ IsData (types.Int32 z) = FitsSigned w32 z
 IsData (types.Uint32 n) = n < 2 ^ 32
 IsData (types.Int64 z) = FitsSigned w64 z
 IsData (types.Uint64 n) = n < 2 ^ 64
-IsData (types.Ipv4 address) = length address ≡ 4
-IsData (types.Ipv6 address) = length address ≡ 16
+IsData (types.Ipv4 address) = length address ≡ IPV4_LENGTH
+IsData (types.Ipv6 address) = length address ≡ IPV6_LENGTH
 IsData (types.Text text) = length text < 2 ^ 64
 IsData (types.Binary text) = length text < 2 ^ 64
 

@@ -7,6 +7,7 @@
 //! which a pair.
 #![tactic(auto)]
 
+pub mod kind;
 mod law;
 mod read;
 mod value;

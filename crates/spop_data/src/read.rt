@@ -5,7 +5,7 @@ ghost use Rattle.spop_data.specs.Data.{IsCounted, IsText, SpellsData, SpellsPair
 ghost use Rattle.spop_data.specs.Reading.{varint_at, cut_at, counted_at, int32_at, uint32_at, int64_at, uint64_at};
 ghost use Rattle.spop_data.specs.Reading.{ipv4_at, ipv6_at, text_at, binary_at, value_at, data_at, pair_at, pairs_at};
 
-use crate::{Data, DataFault, Pair};
+use crate::{Data, DataFault, Pair, kind};
 use spop_varint::{Varint, read_varint};
 use std::alloc::Global;
 use waf_plain::{Bytes, Seq};
@@ -79,26 +79,26 @@ fn data_of(alloc: Global, bytes: &[u8]) -> Result<(Data, &[u8]), DataFault>
 {
     match bytes.split_first() {
         None => Err(DataFault::Invalid),
-        Some((kind, rest)) => value_of(alloc, *kind, rest),
+        Some((first, rest)) => value_of(alloc, *first, rest),
     }
 }
 
 // The value after the byte that has its type and its flags.
 #[tactic(auto, unfolding(crate::specs::Reading::value_at))]
-fn value_of(alloc: Global, kind: u8, bytes: &[u8]) -> Result<(Data, &[u8]), DataFault>
-    ensures { Gives (λ x. (x.0, x.1.now)) result (value_at kind bytes.now) }
+fn value_of(alloc: Global, first: u8, bytes: &[u8]) -> Result<(Data, &[u8]), DataFault>
+    ensures { Gives (λ x. (x.0, x.1.now)) result (value_at first bytes.now) }
 {
-    match kind % 16 {
-        0 => Ok((Data::Null, bytes)),
-        1 => Ok((Data::Bool(kind & 0x10 != 0), bytes)),
-        2 => int32_of(bytes),
-        3 => uint32_of(bytes),
-        4 => int64_of(bytes),
-        5 => uint64_of(bytes),
-        6 => ipv4_of(bytes),
-        7 => ipv6_of(bytes),
-        8 => text_of(alloc, bytes),
-        9 => binary_of(alloc, bytes),
+    match first % kind::FLAGS {
+        kind::NULL => Ok((Data::Null, bytes)),
+        kind::BOOLEAN => Ok((Data::Bool(first & kind::TRUE != 0), bytes)),
+        kind::INT32 => int32_of(bytes),
+        kind::UINT32 => uint32_of(bytes),
+        kind::INT64 => int64_of(bytes),
+        kind::UINT64 => uint64_of(bytes),
+        kind::IPV4 => ipv4_of(bytes),
+        kind::IPV6 => ipv6_of(bytes),
+        kind::STRING => text_of(alloc, bytes),
+        kind::BINARY => binary_of(alloc, bytes),
         _ => Err(DataFault::Invalid),
     }
 }
@@ -153,7 +153,7 @@ fn uint64_of(bytes: &[u8]) -> Result<(Data, &[u8]), DataFault>
 fn ipv4_of(bytes: &[u8]) -> Result<(Data, &[u8]), DataFault>
     ensures { Gives (λ x. (x.0, x.1.now)) result (ipv4_at bytes.now) }
 {
-    match bytes.split_first_chunk::<4>() {
+    match bytes.split_first_chunk::<{ kind::IPV4_LENGTH }>() {
         Some((address, rest)) => Ok((Data::Ipv4(*address), rest)),
         None => Err(DataFault::Invalid),
     }
@@ -163,7 +163,7 @@ fn ipv4_of(bytes: &[u8]) -> Result<(Data, &[u8]), DataFault>
 fn ipv6_of(bytes: &[u8]) -> Result<(Data, &[u8]), DataFault>
     ensures { Gives (λ x. (x.0, x.1.now)) result (ipv6_at bytes.now) }
 {
-    match bytes.split_first_chunk::<16>() {
+    match bytes.split_first_chunk::<{ kind::IPV6_LENGTH }>() {
         Some((address, rest)) => Ok((Data::Ipv6(*address), rest)),
         None => Err(DataFault::Invalid),
     }

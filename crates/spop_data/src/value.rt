@@ -1,6 +1,7 @@
+use crate::kind::{IPV4_LENGTH, IPV6_LENGTH};
 use waf_plain::{Bytes, NoMemory};
 
-/// A typed value. In the order of SPOP's types: 0 is `Null`, 9 is `Binary`.
+/// A typed value, in the order of SPOP's types, whose numbers stand in `kind`.
 #[derive(Clone, Debug, PartialEq, Drop)]
 pub enum Data {
     Null,
@@ -9,8 +10,8 @@ pub enum Data {
     Uint32(u32),
     Int64(i64),
     Uint64(u64),
-    Ipv4([u8; 4]),
-    Ipv6([u8; 16]),
+    Ipv4([u8; IPV4_LENGTH]),
+    Ipv6([u8; IPV6_LENGTH]),
     Text(Bytes),
     Binary(Bytes),
 }

@@ -2,7 +2,7 @@ ghost use Rattle.std.specs.Prelude.{◌≡◌, ◌++◌, ◌∷◌, ◌<◌, ◌
 ghost use Rattle.spop_data.specs.Data.{IsCounted, SpellsData, SpellsPair};
 ghost use Rattle.spop_data.specs.Writing.{counted, data_bytes, number_bytes, pair_bytes, IsData, IsPair, Grows};
 
-use crate::{Data, Pair};
+use crate::{Data, Pair, kind};
 use spop_varint::write_varint;
 use waf_plain::{Bytes, NoMemory};
 
@@ -64,17 +64,17 @@ fn put_data(value: &Data, out: &mut Bytes) -> Result<(), NoMemory>
     ensures grows { Grows out.old out.new }
 {
     match value {
-        Data::Null => out.push(0),
-        Data::Bool(false) => out.push(1),
-        Data::Bool(true) => out.push(0x11),
-        Data::Int32(number) => put_number(2, i64::from(*number).cast_unsigned(), out),
-        Data::Uint32(number) => put_number(3, u64::from(*number), out),
-        Data::Int64(number) => put_number(4, number.cast_unsigned(), out),
-        Data::Uint64(number) => put_number(5, *number, out),
-        Data::Ipv4(address) => put_bytes(6, address, out),
-        Data::Ipv6(address) => put_bytes(7, address, out),
-        Data::Text(text) => put_text(8, text.as_slice(), out),
-        Data::Binary(text) => put_text(9, text.as_slice(), out),
+        Data::Null => out.push(kind::NULL),
+        Data::Bool(false) => out.push(kind::BOOLEAN),
+        Data::Bool(true) => out.push(kind::BOOLEAN + kind::TRUE),
+        Data::Int32(number) => put_number(kind::INT32, i64::from(*number).cast_unsigned(), out),
+        Data::Uint32(number) => put_number(kind::UINT32, u64::from(*number), out),
+        Data::Int64(number) => put_number(kind::INT64, number.cast_unsigned(), out),
+        Data::Uint64(number) => put_number(kind::UINT64, *number, out),
+        Data::Ipv4(address) => put_bytes(kind::IPV4, address, out),
+        Data::Ipv6(address) => put_bytes(kind::IPV6, address, out),
+        Data::Text(text) => put_text(kind::STRING, text.as_slice(), out),
+        Data::Binary(text) => put_text(kind::BINARY, text.as_slice(), out),
     }
 }
 

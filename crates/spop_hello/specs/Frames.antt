@@ -45,9 +45,13 @@ abbrev pub disconnect_pairs : ℕ → List Pair
 disconnect_pairs status =
     number_pair (codes "status-code") status ∷ text_pair (codes "message") (unwrap_or (message_of status) []) ∷ []
 
+-- no payload of these frames has more bytes
+abbrev pub most_payload : ℕ
+most_payload = 200
+
 -- short enough that its frame keeps to every limit
 abbrev pub IsSmall : List ℕ → Type 0
-IsSmall payload = length payload ≤ 200
+IsSmall payload = length payload ≤ most_payload
 
 -- the payloads
 unfoldable pub hello_payload : Terms → List ℕ

@@ -3,18 +3,23 @@ ghost use Rattle.std.specs.List.{list_all};
 ghost use Rattle.spop_hello.specs.Items.{has_item, is_digit, is_pipelining, is_version};
 ghost use Rattle.spop_hello.specs.Items.{without_blanks, without_end, without_start};
 
+// What parts items, and what is trimmed off them.
+const COMMA: u8 = b',';
+
+const SPACE: u8 = b' ';
+
 // Whether a version of this protocol is among the items: 2, a point and digits.
 pub fn has_version(text: &[u8]) -> bool
     ensures { result ≡ has_item is_version text.now }
 {
-    text.split(|byte| *byte == b',')
+    text.split(|byte| *byte == COMMA)
         .any(|item| is_version(trimmed(item)))
 }
 
 pub fn has_pipelining(text: &[u8]) -> bool
     ensures { result ≡ has_item is_pipelining text.now }
 {
-    text.split(|byte| *byte == b',')
+    text.split(|byte| *byte == COMMA)
         .any(|item| is_pipelining(trimmed(item)))
 }
 
@@ -50,7 +55,7 @@ fn trimmed_start(item: &[u8]) -> &[u8]
 {
     let mut rest = item;
     while let Some((first, more)) = rest.split_first() {
-        if *first != b' ' {
+        if *first != SPACE {
             return rest;
         }
         rest = more;
@@ -63,7 +68,7 @@ fn trimmed_end(item: &[u8]) -> &[u8]
 {
     let mut rest = item;
     while let Some((last, more)) = rest.split_last() {
-        if *last != b' ' {
+        if *last != SPACE {
             return rest;
         }
         rest = more;

@@ -2,15 +2,16 @@ ghost use Rattle.std.specs.Prelude.{All, ◌≡◌, ◌++◌, List, ◌≤◌, �
 ghost use Rattle.spop_varint.specs.Reading.{split_number};
 ghost use Rattle.spop_varint.specs.Varint.{Spells};
 ghost use Rattle.spop_varint.specs.Writing.{spelling};
+ghost use Rattle.spop_varint.specs.declared.write.TheConstants.{MAX_LENGTH};
 
 /// A law, with nothing to run: each number has one spelling, no spelling begins another, and none has
-/// more than ten bytes. So what was written is read again, whatever follows it.
+/// more than `MAX_LENGTH` bytes. So what was written is read again, whatever follows it.
 pub fn one_spelling()
     ensures apart { (a b x y : List ℕ) (m n : ℕ) → Spells a m → Spells b n → a ++ x ≡ b ++ y → (a ≡ b) × (m ≡ n) }
     ensures unique { (a b : List ℕ) (n : ℕ) → Spells a n → Spells b n → a ≡ b }
     ensures spelled { (n : ℕ) → n < 2 ^ 64 → Spells (spelling n) n }
     ensures written { (a : List ℕ) (n : ℕ) → Spells a n → a ≡ spelling n }
-    ensures short { (a : List ℕ) (n : ℕ) → Spells a n → length a ≤ 10 }
+    ensures short { (a : List ℕ) (n : ℕ) → Spells a n → length a ≤ MAX_LENGTH }
 {}
 
 /// A law, with nothing to run: the number that bytes begin with, as a function on lists, is what its

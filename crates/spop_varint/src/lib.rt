@@ -12,4 +12,4 @@ mod write;
 
 pub use law::{one_reading, one_spelling};
 pub use read::{Varint, read_varint, split_varint};
-pub use write::{varint_length, write_varint};
+pub use write::{MAX_LENGTH, varint_length, write_varint};

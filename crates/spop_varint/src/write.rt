@@ -1,11 +1,15 @@
 ghost use Rattle.std.specs.Prelude.{◌≡◌, ◌++◌, ◌≤◌, OnErr, OnOk, length};
 ghost use Rattle.spop_varint.specs.Varint.{AppendsVarint, Spells};
 ghost use Rattle.spop_varint.specs.Writing.{spelling};
+ghost use Rattle.spop_varint.specs.declared.write.TheConstants.{MAX_LENGTH};
 
 use arrayvec::ArrayVec;
 use waf_plain::{Bytes, NoMemory};
 
-/// Appends the spelling of a number, which has ten bytes at most. After an `Err` the bytes are as
+/// As many bytes as spell the greatest numbers.
+pub const MAX_LENGTH: usize = 10;
+
+/// Appends the spelling of a number, which has `MAX_LENGTH` bytes at most. After an `Err` the bytes are as
 /// before.
 pub fn write_varint(value: u64, out: &mut Bytes) -> Result<(), NoMemory>
     ensures ok { OnOk result (AppendsVarint out.old out.new value) }
@@ -15,15 +19,15 @@ pub fn write_varint(value: u64, out: &mut Bytes) -> Result<(), NoMemory>
     out.append(spell(value).as_slice())
 }
 
-/// How many bytes spell a number, 1 to 10. It takes no memory.
+/// How many bytes spell a number, at least one. It takes no memory.
 pub fn varint_length(value: u64) -> u64
     ensures exact { result ≡ length (spelling value) }
-    ensures few { result ≤ 10 }
+    ensures few { result ≤ MAX_LENGTH }
 {
     spell(value).len() as u64
 }
 
-fn spell(value: u64) -> ArrayVec<u8, 10>
+fn spell(value: u64) -> ArrayVec<u8, MAX_LENGTH>
     ensures { Spells result.items value }
 {
     let mut out = ArrayVec::new();
