@@ -5,16 +5,18 @@ use Rattle.std.specs.Net.Grammar.{IsIpText}
 use Rattle.std.specs.declared.net.ip_addr.IpAddr.{IpAddr}
 use Rattle.std.specs.declared.net.ip_addr.IpAddr.TheVariants.{V4, V6}
 use Rattle.ip_set.specs.declared.block.Block as block
+use Rattle.ip_set.specs.declared.block.TheConstants.{IPV4_BITS, IPV6_BITS}
+use Rattle.ip_set.specs.declared.characters.TheConstants.{PLUS, SLASH, ZERO}
 
 abbrev pub width : IpAddr → ℕ
-width (V4 a) = 32
-width (V6 a) = 128
+width (V4 a) = IPV4_BITS
+width (V6 a) = IPV6_BITS
 
 -- an address; or, where the word is none, an address, `/` and a number of at most its width
 abbrev pub IsWord : List ℕ → block.Block → Type 0
 IsWord word b = (IsIpText word b.address × (b.bits ≡ width b.address))
     ⊎ (((ip : IpAddr) → ¬ IsIpText word ip)
-    × (address : List ℕ) × (word ≡ address ++ 47 ∷ decimal b.bits) × IsIpText address b.address
+    × (address : List ℕ) × (word ≡ address ++ SLASH ∷ decimal b.bits) × IsIpText address b.address
     × (b.bits ≤ width b.address))
 
 -- the first bits of both, as many as n of w, agree
@@ -23,8 +25,8 @@ AgreesIn w n a b = a / 2 ^ (w - n) ≡ b / 2 ^ (w - n)
 
 -- the address has the version and the first n bits of the other
 abbrev pub CoversAt : IpAddr → ℕ → IpAddr → Type 0
-CoversAt (V4 a) n (V4 b) = AgreesIn 32 n (ipv4_bits a) (ipv4_bits b)
-CoversAt (V6 a) n (V6 b) = AgreesIn 128 n (ipv6_bits a) (ipv6_bits b)
+CoversAt (V4 a) n (V4 b) = AgreesIn IPV4_BITS n (ipv4_bits a) (ipv4_bits b)
+CoversAt (V6 a) n (V6 b) = AgreesIn IPV6_BITS n (ipv6_bits a) (ipv6_bits b)
 CoversAt (V4 a) n (V6 b) = ⊥
 CoversAt (V6 a) n (V4 b) = ⊥
 
@@ -41,7 +43,7 @@ IsIn words text = (ip : IpAddr) × IsIpText text ip × Any (λ word. (b : block.
 
 -- no byte is a slash
 abbrev pub HasNoSlash : List ℕ → Type 0
-HasNoSlash text = All (λ c. c ≢ 47) text
+HasNoSlash text = All (λ c. c ≢ SLASH) text
 
 -- the word at the place names no block, and each before it does
 abbrev pub IsFirstBad : List (List ℕ) → ℕ → Type 0
@@ -50,5 +52,5 @@ IsFirstBad words at = (at < length words) × ((b : block.Block) → ¬ IsWord (g
 
 abbrev pub HasPlainFront : List ℕ → Type 0
 HasPlainFront [] = Unit {0}
-HasPlainFront (c ∷ []) = c ≢ 43
-HasPlainFront (c ∷ d ∷ rest) = (c ≢ 43) × (c ≢ 48)
+HasPlainFront (c ∷ []) = c ≢ PLUS
+HasPlainFront (c ∷ d ∷ rest) = (c ≢ PLUS) × (c ≢ ZERO)

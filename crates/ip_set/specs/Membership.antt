@@ -1,11 +1,13 @@
 -- The block that a word names, and membership, as functions that compute.
-use Rattle.std.specs.Prelude.{ℕ, ◌-◌, ◌/◌, ◌^◌, Bool, false, ◌==◌, nat_le, List, [], ◌∷◌, decimal, Option, Some, None, bytes_eq, if◌then◌else◌}
+use Rattle.std.specs.Prelude.{ℕ, ◌+◌, ◌-◌, ◌/◌, ◌^◌, Bool, false, ◌==◌, nat_le, List, [], ◌∷◌, decimal, Option, Some, None, bytes_eq, if◌then◌else◌}
 use Rattle.std.specs.List.{find, list_any, range_with_len}
 use Rattle.std.specs.Net.Addr.{ipv4_bits, ipv6_bits}
 use Rattle.std.specs.Net.Reader.{read_ipv4, read_ipv6, whole_value}
 use Rattle.std.specs.declared.net.ip_addr.IpAddr.{IpAddr}
 use Rattle.std.specs.declared.net.ip_addr.IpAddr.TheVariants.{V4, V6}
 use Rattle.ip_set.specs.declared.block.Block as block
+use Rattle.ip_set.specs.declared.block.TheConstants.{IPV4_BITS, IPV6_BITS}
+use Rattle.ip_set.specs.declared.characters.TheConstants.{SLASH}
 use Rattle.ip_set.specs.Blocks.{width}
 
 abbrev pub ip_from : Option (List ℕ) → Option (List ℕ) → Option IpAddr
@@ -22,8 +24,8 @@ agree_in w n a b = a / 2 ^ (w - n) == b / 2 ^ (w - n)
 
 -- the address has the version and the first n bits of the other
 unfoldable pub covers_at : IpAddr → ℕ → IpAddr → Bool
-covers_at (V4 a) n (V4 b) = agree_in 32 n (ipv4_bits a) (ipv4_bits b)
-covers_at (V6 a) n (V6 b) = agree_in 128 n (ipv6_bits a) (ipv6_bits b)
+covers_at (V4 a) n (V4 b) = agree_in IPV4_BITS n (ipv4_bits a) (ipv4_bits b)
+covers_at (V6 a) n (V6 b) = agree_in IPV6_BITS n (ipv6_bits a) (ipv6_bits b)
 covers_at (V4 a) n (V6 b) = false
 covers_at (V6 a) n (V4 b) = false
 
@@ -32,15 +34,15 @@ covers_at (V6 a) n (V4 b) = false
 -- the text before the last slash, and that after it
 abbrev pub slash_before : ℕ → List ℕ → Option (List ℕ × List ℕ) → Option (List ℕ × List ℕ)
 slash_before c rest (Some x) = Some (c ∷ x.0, x.1)
-slash_before c rest None = if c == 47 then Some ([], rest) else None
+slash_before c rest None = if c == SLASH then Some ([], rest) else None
 
 abbrev pub last_slash : List ℕ → Option (List ℕ × List ℕ)
 last_slash [] = None
 last_slash (c ∷ rest) = slash_before c rest (last_slash rest)
 
--- a number of bits in decimal digits, without a sign or a leading zero
+-- a number of bits that an address may have, in decimal digits, without a sign or a leading zero
 unfoldable pub bits_of : List ℕ → Option ℕ
-bits_of text = find (λ n. bytes_eq text (decimal n)) (range_with_len 0 129)
+bits_of text = find (λ n. bytes_eq text (decimal n)) (range_with_len 0 (IPV6_BITS + 1))
 
 -- so many bits of an address, where its version has them
 abbrev pub block_with : Option IpAddr → Option ℕ → Option block.Block

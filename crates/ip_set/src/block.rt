@@ -1,9 +1,17 @@
 ghost use Rattle.std.specs.Prelude.{◌≡◌, ◌≢◌, ◌≤◌, ◌<◌, ◌++◌, ◌∷◌, List, ℕ, MatchOption, IfSome, IsTrue, ◌↔◌, decimal, Some};
 ghost use Rattle.ip_set.specs.Membership.{block_of};
+ghost use Rattle.ip_set.specs.declared.block.TheConstants.{IPV4_BITS, IPV6_BITS};
+ghost use Rattle.ip_set.specs.declared.characters.TheConstants.{SLASH};
 ghost use Rattle.ip_set.specs.Blocks.{width, IsWord, Covers, AgreesIn, HasNoSlash, HasPlainFront};
 
+use crate::characters::{PLUS, SLASH, ZERO};
 use memchr::memrchr;
 use std::net::IpAddr;
+
+/// How many bits an address of version 4 has.
+pub const IPV4_BITS: u8 = 32;
+/// How many bits an address of version 6 has.
+pub const IPV6_BITS: u8 = 128;
 
 /// The addresses of one version that begin with the first bits of one, as many as `bits`.
 #[derive(Clone, Copy)]
@@ -62,32 +70,32 @@ fn width(address: IpAddr) -> u8
     ensures { result ≡ width address }
 {
     match address {
-        IpAddr::V4(_) => 32,
-        IpAddr::V6(_) => 128,
+        IpAddr::V4(_) => IPV4_BITS,
+        IpAddr::V6(_) => IPV6_BITS,
     }
 }
 
 fn agree_short(bits: u8, a: u32, b: u32) -> bool
-    ensures { IsTrue result ↔ AgreesIn 32 bits a b }
+    ensures { IsTrue result ↔ AgreesIn IPV4_BITS bits a b }
 {
-    let shift = 32u8.saturating_sub(bits);
+    let shift = IPV4_BITS.saturating_sub(bits);
     u64::from(a) >> shift == u64::from(b) >> shift
 }
 
 fn agree_long(bits: u8, a: u128, b: u128) -> bool
-    ensures { IsTrue result ↔ AgreesIn 128 bits a b }
+    ensures { IsTrue result ↔ AgreesIn IPV6_BITS bits a b }
 {
-    let shift = 128u8.saturating_sub(bits);
-    shift == 128 || a >> shift == b >> shift
+    let shift = IPV6_BITS.saturating_sub(bits);
+    shift == IPV6_BITS || a >> shift == b >> shift
 }
 
-/// The text before the last slash, and that behind it.
+/// The text before the last slash, and that after it.
 fn cut(word: &[u8]) -> Option<(&[u8], &[u8])>
-    ensures only { MatchOption result ((a b : List ℕ) → HasNoSlash b → word.now ≢ a ++ 47 ∷ b) (λ p.
-        (a b : List ℕ) → HasNoSlash b → word.now ≡ a ++ 47 ∷ b → (p.0.now ≡ a) × (p.1.now ≡ b)) }
-    ensures whole { IfSome result (λ p. word.now ≡ p.0.now ++ 47 ∷ p.1.now) }
+    ensures only { MatchOption result ((a b : List ℕ) → HasNoSlash b → word.now ≢ a ++ SLASH ∷ b) (λ p.
+        (a b : List ℕ) → HasNoSlash b → word.now ≡ a ++ SLASH ∷ b → (p.0.now ≡ a) × (p.1.now ≡ b)) }
+    ensures whole { IfSome result (λ p. word.now ≡ p.0.now ++ SLASH ∷ p.1.now) }
 {
-    let Some(at) = memrchr(b'/', word) else {
+    let Some(at) = memrchr(SLASH, word) else {
         return None;
     };
     Some((word.split_at(at).0, word.split_at(at + 1).1))
@@ -114,8 +122,8 @@ fn has_plain_front(text: &[u8]) -> bool
     ensures { IsTrue result ↔ HasPlainFront text.now }
 {
     match text {
-        [b'+', ..] => false,
-        [b'0', _, ..] => false,
+        [PLUS, ..] => false,
+        [ZERO, _, ..] => false,
         _ => true,
     }
 }

@@ -10,6 +10,7 @@
 #![tactic(auto)]
 
 mod block;
+mod characters;
 mod set;
 
 pub use block::{Block, block_of_a_word};

@@ -6,6 +6,11 @@ ghost use Rattle.replay_text.specs.Numbers.{is_digit, is_number, number_to, valu
 // As many digits as a number of 64 bits has at most.
 const MOST_DIGITS: usize = 20;
 
+// Numbers are decimal.
+const BASE: u128 = 10;
+
+const ZERO: u8 = b'0';
+
 /// A number in decimal digits without a sign or a leading zero, where it is at most this.
 pub fn read_number(text: &[u8], most: u64) -> Option<u64>
     ensures { result ≡ number_to most text.now }
@@ -28,7 +33,7 @@ fn has_number_form(text: &[u8]) -> bool
     match text {
         [] => false,
         [digit] => is_digit_byte(*digit),
-        [first, ..] => *first != b'0' && has_digits_only(text) && text.len() <= MOST_DIGITS,
+        [first, ..] => *first != ZERO && has_digits_only(text) && text.len() <= MOST_DIGITS,
     }
 }
 
@@ -41,7 +46,7 @@ fn has_digits_only(text: &[u8]) -> bool
 fn is_digit_byte(byte: u8) -> bool
     ensures { result ≡ is_digit byte }
 {
-    b'0' <= byte && byte <= b'9'
+    byte.is_ascii_digit()
 }
 
 fn value(text: &[u8]) -> u128
@@ -50,7 +55,7 @@ fn value(text: &[u8]) -> u128
 {
     let mut number = 0;
     for byte in text {
-        number = number * 10 + u128::from(byte.saturating_sub(b'0'));
+        number = number * BASE + u128::from(byte.saturating_sub(ZERO));
     }
     number
 }

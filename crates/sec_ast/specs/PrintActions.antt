@@ -15,10 +15,11 @@ use Rattle.sec_ast.specs.declared.link.Link.{Link}
 use Rattle.sec_ast.specs.declared.macros.Part.{Part}
 use Rattle.sec_ast.specs.declared.rule.Rule.{Rule}
 use Rattle.sec_ast.specs.declared.transform.Transform.{Transform}
+use Rattle.sec_text.specs.declared.characters.TheConstants.{SINGLE_QUOTE}
 
 -- a name with its colon, and a value in single quotes
 abbrev pub quoted_piece : List ℕ → List ℕ → List ℕ
-quoted_piece label text = label ++ in_quotes 39 text
+quoted_piece label text = label ++ in_quotes SINGLE_QUOTE text
 
 abbrev pub number_piece : List ℕ → ℕ → List ℕ
 number_piece label n = label ++ decimal n

@@ -4,10 +4,11 @@ use Rattle.std.specs.List.{flat_map}
 use Rattle.sec_ast.specs.Variable.{variable_name}
 use Rattle.sec_ast.specs.declared.macros.Part.{Part}
 use Rattle.sec_ast.specs.declared.macros.Part.TheVariants as parts
+use Rattle.sec_text.specs.declared.characters.TheConstants.{DOT}
 
 abbrev pub key_text : Option (List ℕ) → List ℕ
 key_text None = []
-key_text (Some key) = 46 ∷ key
+key_text (Some key) = DOT ∷ key
 
 -- text as it is, a reference as %{NAME} or %{NAME.KEY}
 abbrev pub part_text : Part → List ℕ

@@ -7,6 +7,7 @@ use Rattle.sec_ast.specs.PrintTargets.{targets_text}
 use Rattle.sec_ast.specs.PrintTexts.{line_of}
 use Rattle.sec_ast.specs.declared.link.Link.{Link}
 use Rattle.sec_ast.specs.declared.rule.Rule.{Rule}
+use Rattle.sec_text.specs.declared.characters.TheConstants.{COMMA}
 
 -- an action list without actions is no word of SecRule; SecAction has an action without effect then
 abbrev pub condition_words : Link → List ℕ → List (List ℕ)
@@ -30,7 +31,7 @@ is_more (link ∷ links) = true
 unfoldable pub lines_behind : List (List ℕ) → List Link → List ℕ
 lines_behind pieces [] = []
 lines_behind pieces (link ∷ links) =
-    link_line link (join_with_byte 44 (pieces ++ link_pieces link (is_more links))) ++ lines_behind [] links
+    link_line link (join_with_byte COMMA (pieces ++ link_pieces link (is_more links))) ++ lines_behind [] links
 
 abbrev pub rule_text : Rule → List ℕ
 rule_text rule = lines_behind (rule_pieces rule) rule.links

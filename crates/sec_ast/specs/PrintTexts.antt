@@ -1,10 +1,11 @@
 -- Texts as they are written: escapes, quotes and words.
 use Rattle.std.specs.Prelude.{ℕ, ◌==◌, List, [], ◌∷◌, ◌++◌, codes, if◌then◌else◌}
 use Rattle.std.specs.List.{flat_map}
+use Rattle.sec_text.specs.declared.characters.TheConstants.{BACKSLASH, QUOTE, SPACE}
 
 -- a byte, with \ before it where it is the quote
 abbrev pub marked : ℕ → ℕ → List ℕ
-marked quote b = if b == quote then 92 ∷ b ∷ [] else b ∷ []
+marked quote b = if b == quote then BACKSLASH ∷ b ∷ [] else b ∷ []
 
 abbrev pub escaped : ℕ → List ℕ → List ℕ
 escaped quote text = flat_map (marked quote) text
@@ -14,7 +15,7 @@ in_quotes quote text = quote ∷ escaped quote text ++ quote ∷ []
 
 -- a blank and the word in quotes
 abbrev pub spread : List ℕ → List ℕ
-spread word = 32 ∷ in_quotes 34 word
+spread word = SPACE ∷ in_quotes QUOTE word
 
 -- a directive's name, its words, and the line's end
 unfoldable pub line_of : List ℕ → List (List ℕ) → List ℕ

@@ -9,6 +9,7 @@ use crate::print_macros::put_macro;
 use crate::print_texts::{behind, put_decimal, put_in_quotes};
 use crate::rule::Rule;
 use crate::transform::Transform;
+use sec_text::characters::SINGLE_QUOTE;
 use std::alloc::Global;
 use waf_plain::{Bytes, NoMemory, Seq};
 
@@ -76,7 +77,7 @@ fn quoted_piece(alloc: Global, label: &[u8], text: &[u8]) -> Result<Bytes, NoMem
     ensures { IfOk result (λ bytes. bytes ≡ quoted_piece label.now text.now) }
 {
     let mut out = Bytes::copy(alloc, label)?;
-    put_in_quotes(b'\'', text, &mut out)?;
+    put_in_quotes(SINGLE_QUOTE, text, &mut out)?;
     Ok(out)
 }
 

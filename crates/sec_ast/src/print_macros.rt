@@ -3,6 +3,7 @@ ghost use Rattle.sec_ast.specs.PrintMacros.{key_text, macro_text, part_text};
 
 use crate::macros::{Macro, Part};
 use crate::variable::Var;
+use sec_text::characters::DOT;
 use waf_plain::{Bytes, NoMemory};
 
 /// Puts a macro as it is written: text as it is, references in braces.
@@ -40,6 +41,6 @@ fn put_key(key: &Option<Bytes>, out: &mut Bytes) -> Result<(), NoMemory>
     let Some(key) = key else {
         return Ok(());
     };
-    out.push(b'.')?;
+    out.push(DOT)?;
     out.append(key.as_slice())
 }

@@ -5,8 +5,14 @@ ghost use Rattle.sec_ast.specs.PrintOperators.{argument_text, behind_blank, hex_
 use crate::operator::{Op, OpKind};
 use crate::print_macros::put_macro;
 use crate::print_texts::put_joined;
+use sec_text::characters::{BACKSLASH, BAR, COMMA, QUOTE, SPACE};
 use std::alloc::Global;
 use waf_plain::{Bytes, NoMemory};
+
+// A byte is written by its two digits to this base.
+const HEX_BASE: u8 = 16;
+
+const HEX_DIGITS: [u8; 16] = *b"0123456789abcdef";
 
 /// Puts an operator as it is written, with its argument.
 #[tactic(auto, unfolding(crate::specs::PrintOperators::operator_text))]
@@ -37,7 +43,7 @@ fn put_behind_blank(argument: &[u8], out: &mut Bytes) -> Result<(), NoMemory>
     if argument.is_empty() {
         return Ok(());
     }
-    out.push(b' ')?;
+    out.push(SPACE)?;
     out.append(argument)
 }
 
@@ -46,13 +52,13 @@ fn put_argument(op: &Op, out: &mut Bytes) -> Result<(), NoMemory>
 {
     match op.kind {
         OpKind::Pm => put_phrases(op.words.as_slice(), out),
-        OpKind::IpMatch | OpKind::ValidateByteRange => put_joined(b',', op.words.as_slice(), out),
+        OpKind::IpMatch | OpKind::ValidateByteRange => put_joined(COMMA, op.words.as_slice(), out),
         _ => put_macro(&op.text, out),
     }
 }
 
 fn put_phrases(phrases: &[Bytes], out: &mut Bytes) -> Result<(), NoMemory>
-    ensures { OnOk result (out.new ≡ out.old ++ join_with_byte 32 (map phrase_text phrases.now)) }
+    ensures { OnOk result (out.new ≡ out.old ++ join_with_byte SPACE (map phrase_text phrases.now)) }
 {
     let Some((first, others)) = phrases.split_first() else {
         return Ok(());
@@ -65,9 +71,9 @@ fn put_phrases(phrases: &[Bytes], out: &mut Bytes) -> Result<(), NoMemory>
 }
 
 fn put_further_phrase(phrase: &[u8], out: &mut Bytes) -> Result<(), NoMemory>
-    ensures { OnOk result (out.new ≡ out.old ++ 32 ∷ phrase_text phrase.now) }
+    ensures { OnOk result (out.new ≡ out.old ++ SPACE ∷ phrase_text phrase.now) }
 {
-    out.push(b' ')?;
+    out.push(SPACE)?;
     put_phrase(phrase, out)
 }
 
@@ -86,19 +92,24 @@ fn put_phrase_byte(byte: u8, out: &mut Bytes) -> Result<(), NoMemory>
     if is_plain(byte) {
         return out.push(byte);
     }
-    let digits = [b'|', hex_digit(byte / 16), hex_digit(byte % 16), b'|'];
+    let digits = [
+        BAR,
+        hex_digit(byte / HEX_BASE),
+        hex_digit(byte % HEX_BASE),
+        BAR,
+    ];
     out.append(&digits)
 }
 
 fn is_plain(byte: u8) -> bool
     ensures { result ≡ is_plain byte }
 {
-    33 <= byte && byte <= 126 && byte != b'"' && byte != b'|' && byte != b'\\'
+    byte.is_ascii_graphic() && byte != QUOTE && byte != BAR && byte != BACKSLASH
 }
 
 fn hex_digit(n: u8) -> u8
-    requires { n < 16 }
+    requires { n < HEX_BASE }
     ensures { result ≡ hex_digit n }
 {
-    if n < 10 { b'0' + n } else { b'a' - 10 + n }
+    HEX_DIGITS[n as usize]
 }

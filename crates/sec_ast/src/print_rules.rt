@@ -10,6 +10,7 @@ use crate::print_operators::put_operator;
 use crate::print_targets::put_targets;
 use crate::print_texts::{put_joined, put_line};
 use crate::rule::Rule;
+use sec_text::characters::COMMA;
 use std::alloc::Global;
 use waf_plain::{Bytes, NoMemory, Seq};
 
@@ -42,11 +43,11 @@ fn put_link(
     out: &mut Bytes,
 ) -> Result<(), NoMemory>
     ensures { OnOk result (out.new ≡
-        out.old ++ link_line link.now (join_with_byte 44 (pieces ++ link_pieces link.now follows))) }
+        out.old ++ link_line link.now (join_with_byte COMMA (pieces ++ link_pieces link.now follows))) }
 {
     let mut actions = Bytes::new(alloc);
     add_link(alloc, link, follows, &mut pieces)?;
-    put_joined(b',', pieces.as_slice(), &mut actions)?;
+    put_joined(COMMA, pieces.as_slice(), &mut actions)?;
     put_link_line(alloc, link, actions.as_slice(), out)
 }
 

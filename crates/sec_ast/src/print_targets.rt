@@ -3,6 +3,7 @@ ghost use Rattle.sec_ast.specs.PrintTargets.{mark_text, select_text, target_text
 
 use crate::print_texts::put_escaped;
 use crate::target::{Select, Target};
+use sec_text::characters::{BAR, SLASH};
 use waf_plain::{Bytes, NoMemory};
 
 /// Puts a target list as it is written, parted by bars.
@@ -21,9 +22,9 @@ pub(crate) fn put_targets(targets: &[Target], out: &mut Bytes) -> Result<(), NoM
 }
 
 fn put_further_target(target: &Target, out: &mut Bytes) -> Result<(), NoMemory>
-    ensures { OnOk result (out.new ≡ out.old ++ 124 ∷ target_text target.now) }
+    ensures { OnOk result (out.new ≡ out.old ++ BAR ∷ target_text target.now) }
 {
-    out.push(b'|')?;
+    out.push(BAR)?;
     put_target(target, out)
 }
 
@@ -66,6 +67,6 @@ fn put_pattern(pattern: &[u8], out: &mut Bytes) -> Result<(), NoMemory>
     ensures { OnOk result (out.new ≡ out.old ++ select_text (Select.Pattern pattern.now)) }
 {
     out.append(b":/")?;
-    put_escaped(b'/', pattern, out)?;
+    put_escaped(SLASH, pattern, out)?;
     out.append(b"/")
 }

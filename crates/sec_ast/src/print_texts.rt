@@ -3,6 +3,7 @@ ghost use Rattle.std.specs.List.{join_with_byte};
 ghost use Rattle.sec_ast.specs.PrintTexts.{escaped, in_quotes, line_of, marked, spread};
 
 use itoa::Buffer;
+use sec_text::characters::{BACKSLASH, LINE_FEED, QUOTE, SPACE};
 use std::alloc::Global;
 use waf_plain::{Bytes, NoMemory};
 
@@ -20,7 +21,7 @@ fn put_marked(quote: u8, byte: u8, out: &mut Bytes) -> Result<(), NoMemory>
     ensures { OnOk result (out.new ≡ out.old ++ marked quote byte) }
 {
     if byte == quote {
-        out.push(b'\\')?;
+        out.push(BACKSLASH)?;
         return out.push(byte);
     }
     out.push(byte)
@@ -74,12 +75,12 @@ pub(crate) fn put_line(name: &[u8], words: &[&[u8]], out: &mut Bytes) -> Result<
     for word in words {
         put_word(*word, out)?;
     }
-    out.push(b'\n')
+    out.push(LINE_FEED)
 }
 
 fn put_word(word: &[u8], out: &mut Bytes) -> Result<(), NoMemory>
     ensures { OnOk result (out.new ≡ out.old ++ spread word.now) }
 {
-    out.push(b' ')?;
-    put_in_quotes(b'"', word, out)
+    out.push(SPACE)?;
+    put_in_quotes(QUOTE, word, out)
 }

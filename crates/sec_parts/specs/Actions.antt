@@ -17,7 +17,7 @@ use Rattle.sec_parts.specs.Numbers.{number_in}
 use Rattle.sec_parts.specs.Macros.{macro_of}
 use Rattle.sec_parts.specs.Kinds.{is_refused_action, is_refused_transform, kind_named, may_stand}
 use Rattle.sec_parts.specs.Changes.{ctl_of, identifier, setvar_of}
-use Rattle.sec_parts.specs.declared.limits.TheConstants.{MAX_PHASE, MAX_SKIP, MAX_STATUS, MIN_STATUS}
+use Rattle.sec_parts.specs.declared.limits.TheConstants.{LOGGING_PHASE, MAX_PHASE, MAX_SKIP, MAX_STATUS, MIN_STATUS, REQUEST_PHASE, RESPONSE_PHASE}
 
 -- ---- values; piece: the whole piece, which is the word of a fault
 
@@ -31,9 +31,9 @@ or_bad piece None make = bad piece
 
 unfoldable pub phase_in : List ℕ → Option ℕ
 phase_in text =
-    if is_word (codes "request") text then Some 2
-    else (if is_word (codes "response") text then Some 4
-    else (if is_word (codes "logging") text then Some 5
+    if is_word (codes "request") text then Some REQUEST_PHASE
+    else (if is_word (codes "response") text then Some RESPONSE_PHASE
+    else (if is_word (codes "logging") text then Some LOGGING_PHASE
     else number_in 1 MAX_PHASE text))
 
 abbrev pub id_of : List ℕ → List ℕ → Result Action Bad

@@ -1,5 +1,5 @@
 -- What setvar and ctl say.
-use Rattle.std.specs.Prelude.{ℕ, ◌==◌, Bool, true, false, nat_le, codes, find, List, [], ◌∷◌, take, drop, Option, Some, None, Result, Ok, if◌then◌else◌}
+use Rattle.std.specs.Prelude.{ℕ, ◌==◌, Bool, true, false, nat_le, codes, find, List, [], ◌∷◌, length, take, drop, Option, Some, None, Result, Ok, if◌then◌else◌}
 use Rattle.std.specs.List.{list_any}
 use Rattle.std.specs.Str.{str_eq_ignore_ascii_case}
 use Rattle.sec_ast.specs.Names.{is_one_of}
@@ -20,6 +20,7 @@ use Rattle.sec_parts.specs.Results.{◌>>=◌, bad, refused}
 use Rattle.sec_parts.specs.Numbers.{number_in}
 use Rattle.sec_parts.specs.Texts.{begins_named, to_byte}
 use Rattle.sec_parts.specs.Macros.{macro_of}
+use Rattle.sec_text.specs.declared.characters.TheConstants.{EQUALS, EXCLAMATION_MARK, MINUS, PLUS}
 
 -- ---- setvar; piece: the whole piece, which is the word of a fault
 
@@ -27,8 +28,8 @@ use Rattle.sec_parts.specs.Macros.{macro_of}
 abbrev pub change_to : List ℕ → Result Change Bad
 change_to [] = macro_of [] >>= λ value. Ok (changes.Put value)
 change_to (b ∷ value) =
-    if b == 43 then (macro_of value >>= λ parts. Ok (changes.Add parts))
-    else (if b == 45 then (macro_of value >>= λ parts. Ok (changes.Sub parts))
+    if b == PLUS then (macro_of value >>= λ parts. Ok (changes.Add parts))
+    else (if b == MINUS then (macro_of value >>= λ parts. Ok (changes.Sub parts))
     else (macro_of (b ∷ value) >>= λ parts. Ok (changes.Put parts)))
 
 -- what stands from = on; without it 1 is put
@@ -45,7 +46,7 @@ assigned piece (b ∷ name) value = do
 
 -- a name up to =
 abbrev pub assignment : List ℕ → List ℕ → Result Action Bad
-assignment piece text = assigned piece (take (to_byte 61 text) text) (drop (to_byte 61 text) text)
+assignment piece text = assigned piece (take (to_byte EQUALS text) text) (drop (to_byte EQUALS text) text)
 
 abbrev pub deletion : List ℕ → List ℕ → Result Action Bad
 deletion piece [] = bad piece
@@ -58,22 +59,26 @@ is_refused_collection text =
     list_any (λ name. begins_named name text)
     (codes "ip." ∷ codes "session." ∷ codes "user." ∷ codes "global." ∷ codes "resource." ∷ [])
 
+-- before the name of a variable of the collection TX
+abbrev pub tx_prefix : List ℕ
+tx_prefix = codes "tx."
+
 unfoldable pub is_of_tx : List ℕ → Bool
-is_of_tx text = begins_named (codes "tx.") text
+is_of_tx text = begins_named tx_prefix text
 
 abbrev pub put_of : List ℕ → List ℕ → Result Action Bad
 put_of piece text =
     if is_refused_collection text then refused text
-    else (if is_of_tx text then assignment piece (drop 3 text) else bad piece)
+    else (if is_of_tx text then assignment piece (drop (length tx_prefix) text) else bad piece)
 
 abbrev pub delete_of : List ℕ → List ℕ → List ℕ → Result Action Bad
 delete_of piece value text =
     if is_refused_collection text then refused value
-    else (if is_of_tx text then deletion piece (drop 3 text) else bad piece)
+    else (if is_of_tx text then deletion piece (drop (length tx_prefix) text) else bad piece)
 
 unfoldable pub setvar_of : List ℕ → List ℕ → Result Action Bad
 setvar_of piece [] = put_of piece []
-setvar_of piece (b ∷ text) = if b == 33 then delete_of piece (b ∷ text) text else put_of piece (b ∷ text)
+setvar_of piece (b ∷ text) = if b == EXCLAMATION_MARK then delete_of piece (b ∷ text) text else put_of piece (b ∷ text)
 
 -- ---- ctl
 
@@ -129,7 +134,7 @@ range_from first [] = range_of (identifier first) (identifier first)
 range_from first (dash ∷ last) = range_of (identifier first) (identifier last)
 
 unfoldable pub id_range : List ℕ → Option (ℕ × ℕ)
-id_range text = range_from (take (to_byte 45 text) text) (drop (to_byte 45 text) text)
+id_range text = range_from (take (to_byte MINUS text) text) (drop (to_byte MINUS text) text)
 
 abbrev pub engine_ctl : List ℕ → Option Engine → Result Action Bad
 engine_ctl piece (Some engine) = Ok (actions.Ctl (ctls.Engine engine))
@@ -180,4 +185,4 @@ abbrev pub ctl_parts : List ℕ → List ℕ → List ℕ → List ℕ → Resul
 ctl_parts piece text name rest = if is_refused_ctl name then refused text else set_ctl piece name rest
 
 unfoldable pub ctl_of : List ℕ → List ℕ → Result Action Bad
-ctl_of piece text = ctl_parts piece text (take (to_byte 61 text) text) (drop (to_byte 61 text) text)
+ctl_of piece text = ctl_parts piece text (take (to_byte EQUALS text) text) (drop (to_byte EQUALS text) text)

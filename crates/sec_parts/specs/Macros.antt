@@ -6,7 +6,9 @@ use Rattle.sec_ast.specs.declared.Part.{Part}
 use Rattle.sec_ast.specs.declared.Part.TheVariants as parts
 use Rattle.sec_ast.specs.declared.Var.{Var}
 use Rattle.sec_text.specs.Readers.{repeat}
+use Rattle.sec_text.specs.declared.characters.TheConstants.{CLOSING_BRACE, DOT, OPENING_BRACE, PERCENT}
 use Rattle.sec_parts.specs.declared.faults.Bad.{Bad}
+use Rattle.sec_parts.specs.declared.macros.TheConstants.{OPENING_LENGTH}
 use Rattle.sec_parts.specs.Results.{bad, refused}
 use Rattle.sec_parts.specs.Texts.{to_byte}
 use Rattle.sec_parts.specs.Variables.{is_refused_variable}
@@ -14,12 +16,12 @@ use Rattle.sec_parts.specs.Variables.{is_refused_variable}
 -- ---- where references are
 
 abbrev pub is_close : ℕ → Bool
-is_close b = b == 125
+is_close b = b == CLOSING_BRACE
 
 abbrev pub opens : List ℕ → Bool
 opens [] = false
 opens (a ∷ []) = false
-opens (a ∷ b ∷ rest) = (a == 37) && (b == 123)
+opens (a ∷ b ∷ rest) = (a == PERCENT) && (b == OPENING_BRACE)
 
 -- %{ and later a }
 abbrev pub begins_reference : List ℕ → Bool
@@ -45,9 +47,9 @@ of_variable whole (Some var) key = keyed whole var key
 -- a name up to the first dot, and what begins there
 abbrev pub reference : List ℕ → List ℕ → Result Part Bad
 reference whole inside =
-    let name = take (to_byte 46 inside) inside in
+    let name = take (to_byte DOT inside) inside in
     if is_refused_variable name then refused whole
-    else of_variable whole (variable_named name) (drop (to_byte 46 inside) inside)
+    else of_variable whole (variable_named name) (drop (to_byte DOT inside) inside)
 
 -- ---- the parts one after the other
 
@@ -58,8 +60,9 @@ with_rest rest (Err fault) = Err fault
 -- the reference at the front, up to and including }
 abbrev pub reference_at : List ℕ → Result (Option (Part × List ℕ)) Bad
 reference_at text =
-    let close = to_byte 125 text in
-    with_rest (drop (close + 1) text) (reference (take (close + 1) text) (take (close - 2) (drop 2 text)))
+    let close = to_byte CLOSING_BRACE text in
+    let inside = take (close - OPENING_LENGTH) (drop OPENING_LENGTH text) in
+    with_rest (drop (close + 1) text) (reference (take (close + 1) text) inside)
 
 -- the part that a text begins with
 unfoldable pub part_at : List ℕ → Result (Option (Part × List ℕ)) Bad

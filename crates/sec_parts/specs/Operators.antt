@@ -8,6 +8,7 @@ use Rattle.sec_ast.specs.declared.OpKind.TheVariants as kinds
 use Rattle.sec_ast.specs.declared.Part.{Part}
 use Rattle.sec_ast.specs.declared.Part.TheVariants as parts
 use Rattle.sec_text.specs.Quotes.{is_blank}
+use Rattle.sec_text.specs.declared.characters.TheConstants.{AT_SIGN, EXCLAMATION_MARK}
 use Rattle.sec_parts.specs.declared.faults.Bad.{Bad}
 use Rattle.sec_parts.specs.declared.operators.Operator.{Operator}
 use Rattle.sec_parts.specs.Results.{◌>>=◌, bad, refused}
@@ -95,13 +96,13 @@ with_argument negated argument kinds.NoMatch = without_argument negated kinds.No
 -- ---- the word of an operator
 
 abbrev pub of_kind : Bool → List ℕ → List ℕ → Option OpKind → Result Operator Bad
-of_kind negated name argument None = bad (64 ∷ name)
+of_kind negated name argument None = bad (AT_SIGN ∷ name)
 of_kind negated name argument (Some kind) = with_argument negated argument kind
 
 -- a name, behind @, and its argument
 abbrev pub named : Bool → List ℕ → List ℕ → Result Operator Bad
 named negated name argument =
-    if is_refused_operator name then refused (64 ∷ name)
+    if is_refused_operator name then refused (AT_SIGN ∷ name)
     else (if reads_phrase_file name then Ok (from_file negated kinds.Pm argument)
     else (if reads_address_file name then Ok (from_file negated kinds.IpMatch argument)
     else of_kind negated name argument (operator_named name)))
@@ -114,11 +115,11 @@ behind_at negated text =
 -- without @ it is the argument of rx
 abbrev pub stated : Bool → List ℕ → Result Operator Bad
 stated negated [] = with_argument negated [] kinds.Rx
-stated negated (b ∷ text) = if b == 64 then behind_at negated text else with_argument negated (b ∷ text) kinds.Rx
+stated negated (b ∷ text) = if b == AT_SIGN then behind_at negated text else with_argument negated (b ∷ text) kinds.Rx
 
 abbrev pub unless_negated : List ℕ → Result Operator Bad
 unless_negated [] = stated false []
-unless_negated (b ∷ text) = if b == 33 then stated true (skip_blanks text) else stated false (b ∷ text)
+unless_negated (b ∷ text) = if b == EXCLAMATION_MARK then stated true (skip_blanks text) else stated false (b ∷ text)
 
 unfoldable pub operator_of : List ℕ → Result Operator Bad
 operator_of word = unless_negated (skip_blanks word)

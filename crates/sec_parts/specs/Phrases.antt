@@ -5,7 +5,9 @@ use Rattle.hex.specs.Hex.{decode_of}
 use Rattle.hex.specs.declared.error.FromHexError.{FromHexError}
 use Rattle.sec_text.specs.Quotes.{is_blank}
 use Rattle.sec_text.specs.Readers.{repeat}
+use Rattle.sec_text.specs.declared.characters.TheConstants.{BAR, COMMA, MINUS}
 use Rattle.sec_parts.specs.declared.faults.Bad.{Bad}
+use Rattle.sec_parts.specs.declared.limits.TheConstants.{MAX_BYTE}
 use Rattle.sec_parts.specs.Results.{◌>>=◌, bad}
 use Rattle.sec_parts.specs.Numbers.{number_in}
 use Rattle.sec_parts.specs.Texts.{to_byte}
@@ -51,8 +53,8 @@ up_to_bar whole digits (bar ∷ rest) = with_rest rest (hex_bytes whole digits)
 unfoldable pub phrase_part : List ℕ → List ℕ → Read
 phrase_part whole [] = Ok None
 phrase_part whole (b ∷ rest) =
-    if b == 124 then up_to_bar whole (take (to_byte 124 rest) rest) (drop (to_byte 124 rest) rest)
-    else Ok (Some (take (to_byte 124 (b ∷ rest)) (b ∷ rest), drop (to_byte 124 (b ∷ rest)) (b ∷ rest)))
+    if b == BAR then up_to_bar whole (take (to_byte BAR rest) rest) (drop (to_byte BAR rest) rest)
+    else Ok (Some (take (to_byte BAR (b ∷ rest)) (b ∷ rest), drop (to_byte BAR (b ∷ rest)) (b ∷ rest)))
 
 unfoldable pub phrase : List ℕ → Result (List ℕ) Bad
 phrase word = repeat (phrase_part word) (suc (length word)) word >>= λ pieces. Ok (concat pieces)
@@ -63,7 +65,7 @@ phrases_of argument = words_of is_blank phrase argument
 -- ---- addresses and ranges, parted by commas and blanks
 
 abbrev pub is_parting : ℕ → Bool
-is_parting b = is_blank b || (b == 44)
+is_parting b = is_blank b || (b == COMMA)
 
 abbrev pub as_it_is : List ℕ → Result (List ℕ) Bad
 as_it_is word = Ok word
@@ -71,9 +73,9 @@ as_it_is word = Ok word
 unfoldable pub addresses_of : List ℕ → Result (List (List ℕ)) Bad
 addresses_of argument = words_of is_parting as_it_is argument
 
--- a number from 0 to 255, or two joined by - of which the first is not greater
+-- the number of a byte, or two joined by - of which the first is not greater
 abbrev pub byte_of : List ℕ → Option ℕ
-byte_of text = number_in 0 255 text
+byte_of text = number_in 0 MAX_BYTE text
 
 abbrev pub in_order : Option ℕ → Option ℕ → Bool
 in_order (Some first) (Some last) = nat_le first last
@@ -85,7 +87,7 @@ ends_in_order first [] = in_order (byte_of first) (byte_of first)
 ends_in_order first (dash ∷ last) = in_order (byte_of first) (byte_of last)
 
 abbrev pub is_range : List ℕ → Bool
-is_range word = ends_in_order (take (to_byte 45 word) word) (drop (to_byte 45 word) word)
+is_range word = ends_in_order (take (to_byte MINUS word) word) (drop (to_byte MINUS word) word)
 
 unfoldable pub range : List ℕ → Result (List ℕ) Bad
 range word = if is_range word then Ok word else bad word

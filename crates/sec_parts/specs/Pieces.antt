@@ -2,6 +2,7 @@
 use Rattle.std.specs.Prelude.{ℕ, ◌==◌, List, [], ◌∷◌, take, drop, Option, Some, None, Result, Ok, if◌then◌else◌}
 use Rattle.std.specs.List.{list_all}
 use Rattle.sec_text.specs.Quotes.{is_blank, quoted}
+use Rattle.sec_text.specs.declared.characters.TheConstants.{COLON, COMMA, SINGLE_QUOTE}
 use Rattle.sec_parts.specs.declared.faults.Bad.{Bad}
 use Rattle.sec_parts.specs.declared.pieces.Piece.{Piece}
 use Rattle.sec_parts.specs.Results.{bad, unclosed}
@@ -19,28 +20,29 @@ ended text name value rest =
 abbrev pub closed : List ℕ → List ℕ → Option (List ℕ × List ℕ) → Read
 closed text name None = unclosed (trim text)
 closed text name (Some x) =
-    let rest = drop (to_byte 44 x.1) x.1 in
-    if list_all is_blank (take (to_byte 44 x.1) x.1) then ended text name (Some x.0) rest
+    let rest = drop (to_byte COMMA x.1) x.1 in
+    if list_all is_blank (take (to_byte COMMA x.1) x.1) then ended text name (Some x.0) rest
     else bad (piece_before text rest)
 
 -- a plain value does not end with \
 abbrev pub plain : List ℕ → List ℕ → List ℕ → Read
 plain text name here =
-    let value = trim_end (take (to_byte 44 here) here) in
-    let rest = drop (to_byte 44 here) here in
+    let value = trim_end (take (to_byte COMMA here) here) in
+    let rest = drop (to_byte COMMA here) here in
     if ends_open value then bad (piece_before text rest) else ended text name (Some value) rest
 
 -- a value, behind blanks, is in single quotes or plain
 abbrev pub valued : List ℕ → List ℕ → List ℕ → Read
 valued text name [] = plain text name []
-valued text name (b ∷ rest) = if b == 39 then closed text name (quoted 39 rest) else plain text name (b ∷ rest)
+valued text name (b ∷ rest) =
+    if b == SINGLE_QUOTE then closed text name (quoted SINGLE_QUOTE rest) else plain text name (b ∷ rest)
 
 -- behind the name stands a colon, a comma or the end
 abbrev pub behind_name : List ℕ → List ℕ → List ℕ → Read
 behind_name text name [] = ended text name None []
 behind_name text name (b ∷ rest) =
-    if b == 58 then valued text name (skip_blanks rest) else ended text name None (b ∷ rest)
+    if b == COLON then valued text name (skip_blanks rest) else ended text name None (b ∷ rest)
 
 -- the piece that a text begins with, and what stands behind its comma
 unfoldable pub piece_at : List ℕ → Read
-piece_at text = behind_name text (take (to_either 44 58 text) text) (drop (to_either 44 58 text) text)
+piece_at text = behind_name text (take (to_either COMMA COLON text) text) (drop (to_either COMMA COLON text) text)

@@ -9,6 +9,7 @@ use Rattle.sec_ast.specs.declared.Select.TheVariants as selects
 use Rattle.sec_ast.specs.declared.Target.{Target}
 use Rattle.sec_text.specs.Quotes.{is_blank, quoted}
 use Rattle.sec_text.specs.Readers.{repeat}
+use Rattle.sec_text.specs.declared.characters.TheConstants.{AMPERSAND, BAR, COLON, EXCLAMATION_MARK, SINGLE_QUOTE, SLASH}
 use Rattle.sec_parts.specs.declared.faults.Bad.{Bad}
 use Rattle.sec_parts.specs.declared.targets.Marks.{Marks}
 use Rattle.sec_parts.specs.Results.{◌>>=◌, bad, refused}
@@ -27,12 +28,12 @@ name_select (b ∷ name) = if ends_open (b ∷ name) then None else Some (select
 
 -- a name runs to the next |
 abbrev pub by_name : List ℕ → Chosen
-by_name here = (name_select (trim_end (take (to_byte 124 here) here)), drop (to_byte 124 here) here)
+by_name here = (name_select (trim_end (take (to_byte BAR here) here)), drop (to_byte BAR here) here)
 
 -- what stands up to the next | is blank; else nothing is selected
 abbrev pub where_blank : Option Select → List ℕ → Chosen
 where_blank select after =
-    (if list_all is_blank (take (to_byte 124 after) after) then select else None, drop (to_byte 124 after) after)
+    (if list_all is_blank (take (to_byte BAR after) after) then select else None, drop (to_byte BAR after) after)
 
 -- behind a pattern come blanks and then | or the end; one that does not close runs to the end
 abbrev pub by_pattern : Option (List ℕ × List ℕ) → Chosen
@@ -42,7 +43,7 @@ by_pattern (Some x) = where_blank (Some (selects.Pattern x.0)) x.1
 -- a name in single quotes has no | and does not end with a blank
 abbrev pub quoted_name : List ℕ → Option Select
 quoted_name text =
-    if list_any (λ b. b == 124) text then None
+    if list_any (λ b. b == BAR) text then None
     else (if is_blank (slice_index text (length text - 1)) then None else name_select text)
 
 -- a pattern in single quotes ends before the second quote, but for blanks
@@ -53,7 +54,7 @@ quoted_pattern (Some x) after = where_blank (if list_all is_blank x.1 then Some 
 abbrev pub in_quotes : List ℕ → List ℕ → Chosen
 in_quotes [] after = where_blank (quoted_name []) after
 in_quotes (b ∷ text) after =
-    if b == 47 then quoted_pattern (quoted 47 text) after else where_blank (quoted_name (b ∷ text)) after
+    if b == SLASH then quoted_pattern (quoted SLASH text) after else where_blank (quoted_name (b ∷ text)) after
 
 -- up to the second quote; where none comes, the piece runs to the end
 abbrev pub up_to_quote : List ℕ → List ℕ → Chosen
@@ -61,13 +62,13 @@ up_to_quote text [] = (None, [])
 up_to_quote text (quote ∷ after) = in_quotes text after
 
 abbrev pub by_quote : List ℕ → Chosen
-by_quote here = up_to_quote (take (to_byte 39 here) here) (drop (to_byte 39 here) here)
+by_quote here = up_to_quote (take (to_byte SINGLE_QUOTE here) here) (drop (to_byte SINGLE_QUOTE here) here)
 
 abbrev pub selector : List ℕ → Chosen
 selector [] = by_name []
 selector (b ∷ rest) =
-    if b == 47 then by_pattern (quoted 47 rest)
-    else (if b == 39 then by_quote rest else by_name (b ∷ rest))
+    if b == SLASH then by_pattern (quoted SLASH rest)
+    else (if b == SINGLE_QUOTE then by_quote rest else by_name (b ∷ rest))
 
 -- the selector behind a variable's colon: for XML it is a name whatever it begins with
 abbrev pub is_xml : Option Var → Bool
@@ -105,19 +106,19 @@ found marks text name var chosen =
 abbrev pub behind_name : Marks → List ℕ → List ℕ → List ℕ → Read
 behind_name marks text name [] = found marks text name (variable_named (trim_end name)) (Some selects.All, [])
 behind_name marks text name (b ∷ rest) =
-    if b == 58 then found marks text name (variable_named name) (selector_of (variable_named name) rest)
+    if b == COLON then found marks text name (variable_named name) (selector_of (variable_named name) rest)
     else found marks text name (variable_named (trim_end name)) (Some selects.All, b ∷ rest)
 
 abbrev pub unmarked : Marks → List ℕ → List ℕ → Read
 unmarked marks text here =
-    behind_name marks text (take (to_either 124 58 here) here) (drop (to_either 124 58 here) here)
+    behind_name marks text (take (to_either BAR COLON here) here) (drop (to_either BAR COLON here) here)
 
 -- ! takes away, & counts
 abbrev pub marked : List ℕ → List ℕ → Read
 marked text [] = unmarked (record { count = false; exclude = false }) text []
 marked text (b ∷ rest) =
-    if b == 33 then unmarked (record { count = false; exclude = true }) text rest
-    else (if b == 38 then unmarked (record { count = true; exclude = false }) text rest
+    if b == EXCLAMATION_MARK then unmarked (record { count = false; exclude = true }) text rest
+    else (if b == AMPERSAND then unmarked (record { count = true; exclude = false }) text rest
     else unmarked (record { count = false; exclude = false }) text (b ∷ rest))
 
 -- the piece that a text begins with, and what stands behind its bar

@@ -3,6 +3,7 @@ use Rattle.std.specs.Prelude.{ℕ, ◌-◌, ◌==◌, Bool, ◌&&◌, ◌||◌, 
 use Rattle.std.specs.List.{position_or_len, prefix_len, suffix_len}
 use Rattle.std.specs.Str.{str_eq_ignore_ascii_case}
 use Rattle.sec_text.specs.Quotes.{is_blank}
+use Rattle.sec_text.specs.declared.characters.TheConstants.{BACKSLASH}
 
 abbrev pub skip_blanks : List ℕ → List ℕ
 skip_blanks text = drop (prefix_len is_blank text) text
@@ -22,7 +23,7 @@ to_either one other text = position_or_len (λ b. (b == one) || (b == other)) te
 
 -- it ends with \
 abbrev pub ends_open : List ℕ → Bool
-ends_open text = slice_index text (length text - 1) == 92
+ends_open text = slice_index text (length text - 1) == BACKSLASH
 
 -- behind a comma or a bar the next piece begins, also an empty one
 abbrev pub behind_first : List ℕ → Option (List ℕ)

@@ -7,7 +7,9 @@ use crate::changes::read_setvar;
 use crate::controls::{read_ctl, read_identifier};
 use crate::faults::{Refusal, bad_word, refused_name};
 use crate::kinds::{Kind, Stand, is_refused_action, is_refused_transform};
-use crate::limits::{MAX_PHASE, MAX_SKIP, MAX_STATUS, MIN_STATUS};
+use crate::limits::{
+    LOGGING_PHASE, MAX_PHASE, MAX_SKIP, MAX_STATUS, MIN_STATUS, REQUEST_PHASE, RESPONSE_PHASE,
+};
 use crate::macros::read_macro;
 use crate::numbers::read_number;
 use crate::pieces::Piece;
@@ -62,13 +64,13 @@ fn phase_named(text: &[u8]) -> Option<u8>
     ensures { result ≡ phase_in text.now }
 {
     if says(text, b"request") {
-        return Some(2);
+        return Some(REQUEST_PHASE);
     }
     if says(text, b"response") {
-        return Some(4);
+        return Some(RESPONSE_PHASE);
     }
     if says(text, b"logging") {
-        return Some(5);
+        return Some(LOGGING_PHASE);
     }
     read_phase_number(text)
 }

@@ -1,25 +1,29 @@
 ghost use Rattle.std.specs.Prelude.{◌≡◌, ◌≤◌, ◌∷◌, [], length, codes, IfOk, IsTrue};
 ghost use Rattle.sec_ast.specs.declared.Part.TheVariants as parts;
 ghost use Rattle.sec_parts.specs.Results.{Gives};
-ghost use Rattle.sec_parts.specs.Changes.{assignment, change_of, change_to, delete_of, deletion, is_of_tx, is_refused_collection, put_of, setvar_of};
+ghost use Rattle.sec_parts.specs.Changes.{assignment, change_of, change_to, delete_of, deletion, is_of_tx, is_refused_collection, put_of, setvar_of, tx_prefix};
 
 use crate::actions::Action;
 use crate::faults::{Refusal, bad_word, refused_name};
 use crate::macros::read_macro;
 use crate::texts::{begins_with_name, count_to};
 use sec_ast::{Change, Macro, Part, SetVar};
+use sec_text::characters::{EQUALS, EXCLAMATION_MARK, MINUS, PLUS};
 use std::alloc::Global;
 use waf_plain::{Bytes, NoMemory, Seq};
+
+// Before the name of a variable of the collection TX.
+const TX_PREFIX: &[u8] = b"tx.";
 
 fn read_change_to(alloc: Global, value: &[u8]) -> Result<Change, Refusal>
     ensures { Gives (λ c. c) result (change_to value.now) }
 {
     match value {
-        [b'+', number @ ..] => {
+        [PLUS, number @ ..] => {
             let number = read_macro(alloc, number)?;
             Ok(Change::Add(number))
         }
-        [b'-', number @ ..] => {
+        [MINUS, number @ ..] => {
             let number = read_macro(alloc, number)?;
             Ok(Change::Sub(number))
         }
@@ -51,7 +55,7 @@ fn read_change(alloc: Global, rest: &[u8]) -> Result<Change, Refusal>
 fn read_assignment(alloc: Global, piece: &[u8], text: &[u8]) -> Result<Action, Refusal>
     ensures { Gives (λ a. a) result (assignment piece.now text.now) }
 {
-    let (name, rest) = text.split_at(count_to(text, b'='));
+    let (name, rest) = text.split_at(count_to(text, EQUALS));
     if name.is_empty() {
         return Err(bad_word(alloc, piece));
     }
@@ -88,9 +92,9 @@ fn is_refused(text: &[u8]) -> bool
 #[tactic(auto, unfolding(crate::specs::Changes::is_of_tx))]
 fn names_tx(text: &[u8]) -> bool
     ensures named { result ≡ is_of_tx text.now }
-    ensures long { IsTrue result → 3 ≤ length text.now }
+    ensures long { IsTrue result → length tx_prefix ≤ length text.now }
 {
-    begins_with_name(text, b"tx.")
+    begins_with_name(text, TX_PREFIX)
 }
 
 fn read_put(alloc: Global, piece: &[u8], text: &[u8]) -> Result<Action, Refusal>
@@ -102,7 +106,7 @@ fn read_put(alloc: Global, piece: &[u8], text: &[u8]) -> Result<Action, Refusal>
     if !names_tx(text) {
         return Err(bad_word(alloc, piece));
     }
-    read_assignment(alloc, piece, text.split_at(3).1)
+    read_assignment(alloc, piece, text.split_at(TX_PREFIX.len()).1)
 }
 
 fn read_delete(alloc: Global, piece: &[u8], value: &[u8], text: &[u8]) -> Result<Action, Refusal>
@@ -114,7 +118,7 @@ fn read_delete(alloc: Global, piece: &[u8], value: &[u8], text: &[u8]) -> Result
     if !names_tx(text) {
         return Err(bad_word(alloc, piece));
     }
-    read_deletion(alloc, piece, text.split_at(3).1)
+    read_deletion(alloc, piece, text.split_at(TX_PREFIX.len()).1)
 }
 
 // What `setvar` says; `piece` is the whole piece, and `text` the value.
@@ -123,7 +127,7 @@ pub fn read_setvar(alloc: Global, piece: &[u8], text: &[u8]) -> Result<Action, R
     ensures { Gives (λ a. a) result (setvar_of piece.now text.now) }
 {
     match text {
-        [b'!', rest @ ..] => read_delete(alloc, piece, text, rest),
+        [EXCLAMATION_MARK, rest @ ..] => read_delete(alloc, piece, text, rest),
         _ => read_put(alloc, piece, text),
     }
 }

@@ -8,6 +8,7 @@ use crate::limits::MAX_ID;
 use crate::numbers::read_number;
 use crate::texts::count_to;
 use sec_ast::{Ctl, Engine, Processor, is_among};
+use sec_text::characters::{EQUALS, MINUS};
 use std::alloc::Global;
 use waf_plain::Bytes;
 
@@ -118,7 +119,7 @@ fn range_between(first: Option<u32>, last: Option<u32>) -> Option<(u32, u32)>
 pub fn read_id_range(text: &[u8]) -> Option<(u32, u32)>
     ensures { result ≡ id_range text.now }
 {
-    let (first, rest) = text.split_at(count_to(text, b'-'));
+    let (first, rest) = text.split_at(count_to(text, MINUS));
     match rest {
         [] => range_between(read_identifier(first), read_identifier(first)),
         [_, last @ ..] => range_between(read_identifier(first), read_identifier(last)),
@@ -177,7 +178,7 @@ fn read_of_kind(alloc: Global, piece: &[u8], value: &[u8], kind: CtlKind) -> Res
 pub fn read_ctl(alloc: Global, piece: &[u8], text: &[u8]) -> Result<Action, Refusal>
     ensures { Gives (λ a. a) result (ctl_of piece.now text.now) }
 {
-    let (name, rest) = text.split_at(count_to(text, b'='));
+    let (name, rest) = text.split_at(count_to(text, EQUALS));
     if is_refused(name) {
         return Err(refused_name(alloc, text));
     }

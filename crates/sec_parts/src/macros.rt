@@ -10,8 +10,12 @@ use crate::faults::{Refusal, bad_word, refused_name};
 use crate::texts::count_to;
 use crate::variables::is_refused_variable;
 use sec_ast::{Macro, Part, Var};
+use sec_text::characters::{CLOSING_BRACE, DOT, OPENING_BRACE, PERCENT};
 use std::alloc::Global;
 use waf_plain::{Bytes, Seq};
+
+// How many bytes `%{` has, which a reference begins with.
+const OPENING_LENGTH: usize = 2;
 
 // How many bytes stand behind the last brace that closes, or all where there is none.
 fn count_after_last_close(text: &[u8]) -> usize
@@ -19,7 +23,7 @@ fn count_after_last_close(text: &[u8]) -> usize
     ensures within { result ≤ length text.now }
 {
     let mut count = 0;
-    while count < text.len() && text[text.len() - count - 1] != b'}' {
+    while count < text.len() && text[text.len() - count - 1] != CLOSING_BRACE {
         count += 1;
     }
     count
@@ -29,7 +33,7 @@ fn has_open(text: &[u8]) -> bool
     ensures { result ≡ opens text.now }
 {
     match text {
-        [b'%', b'{', ..] => true,
+        [PERCENT, OPENING_BRACE, ..] => true,
         _ => false,
     }
 }
@@ -75,7 +79,7 @@ fn read_key(alloc: Global, whole: &[u8], var: Var, rest: &[u8]) -> Result<Part, 
 fn read_reference(alloc: Global, whole: &[u8], inside: &[u8]) -> Result<Part, Refusal>
     ensures { Gives (λ p. p) result (reference whole.now inside.now) }
 {
-    let (name, rest) = inside.split_at(count_to(inside, b'.'));
+    let (name, rest) = inside.split_at(count_to(inside, DOT));
     if is_refused_variable(name) {
         return Err(refused_name(alloc, whole));
     }
@@ -88,11 +92,11 @@ fn read_reference(alloc: Global, whole: &[u8], inside: &[u8]) -> Result<Part, Re
 #[tactic(auto, using(crate::proofs::MacroLaws::long_within, crate::proofs::MacroLaws::long_behind))]
 fn find_close(text: &[u8]) -> usize
     requires { begins_reference text.now ≡ true }
-    ensures close { result ≡ to_byte 125 text.now }
+    ensures close { result ≡ to_byte CLOSING_BRACE text.now }
     ensures within { result < length text.now }
-    ensures behind { 2 ≤ result }
+    ensures behind { OPENING_LENGTH ≤ result }
 {
-    count_to(text, b'}')
+    count_to(text, CLOSING_BRACE)
 }
 
 // The reference at the front, and what follows.
@@ -105,7 +109,11 @@ fn read_front_reference(alloc: Global, text: &[u8], tail: usize) -> Result<(Part
 {
     let close = find_close(text);
     let (whole, rest) = text.split_at(close + 1);
-    let inside = text.split_at(2).1.split_at(close - 2).0;
+    let inside = text
+        .split_at(OPENING_LENGTH)
+        .1
+        .split_at(close - OPENING_LENGTH)
+        .0;
     let part = read_reference(alloc, whole, inside)?;
     Ok((part, rest))
 }

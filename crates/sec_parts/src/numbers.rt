@@ -2,37 +2,39 @@ ghost use Rattle.std.specs.Prelude.{◌≡◌, ◌<◌, ◌≤◌, ◌^◌, leng
 ghost use Rattle.std.specs.List.{list_all};
 ghost use Rattle.sec_parts.specs.Numbers.{is_digit, is_number, number_in, value_of};
 
+// Numbers are decimal.
+const BASE: u64 = 10;
+
+const ZERO: u8 = b'0';
+
+// As many digits as the greatest number of 32 bits has.
+const MAX_DIGITS: usize = 10;
+
 fn value(text: &[u8]) -> u64
-    requires { length text.now ≤ 10 }
+    requires { length text.now ≤ MAX_DIGITS }
     ensures { result ≡ value_of text.now }
 {
     let mut number = 0;
     for byte in text {
-        number = number * 10 + u64::from(byte.saturating_sub(b'0'));
+        number = number * BASE + u64::from(byte.saturating_sub(ZERO));
     }
     number
-}
-
-fn is_digit_byte(byte: u8) -> bool
-    ensures { result ≡ is_digit byte }
-{
-    b'0' <= byte && byte <= b'9'
 }
 
 fn has_digits_only(text: &[u8]) -> bool
     ensures { result ≡ list_all is_digit text.now }
 {
-    text.iter().all(|b| is_digit_byte(*b))
+    text.iter().all(|b| b.is_ascii_digit())
 }
 
 fn has_number_form(text: &[u8]) -> bool
     ensures form { result ≡ is_number text.now }
-    ensures short { IsTrue result → length text.now ≤ 10 }
+    ensures short { IsTrue result → length text.now ≤ MAX_DIGITS }
 {
     match text {
         [] => false,
-        [digit] => is_digit_byte(*digit),
-        [first, rest @ ..] => *first != b'0' && has_digits_only(text) && rest.len() < 10,
+        [digit] => digit.is_ascii_digit(),
+        [first, rest @ ..] => *first != ZERO && has_digits_only(text) && rest.len() < MAX_DIGITS,
     }
 }
 

@@ -10,6 +10,7 @@ use crate::macros::read_macro;
 use crate::phrases::{count_to_blank, read_addresses, read_phrases, read_ranges};
 use crate::texts::trim_front;
 use sec_ast::{Macro, Op, OpKind, Part, is_among};
+use sec_text::characters::{AT_SIGN, EXCLAMATION_MARK};
 use std::alloc::Global;
 use waf_plain::{Bytes, NoMemory, Seq};
 
@@ -67,7 +68,7 @@ fn is_of_address_file(name: &[u8]) -> bool
 
 // A fault whose word is a name with `@` before it.
 fn at_name(alloc: Global, flaw: Flaw, name: &[u8]) -> Refusal
-    ensures { IsBad result flaw (64 ∷ name.now) }
+    ensures { IsBad result flaw (AT_SIGN ∷ name.now) }
 {
     match with_at(alloc, name) {
         Ok(word) => with_word(alloc, flaw, word.as_slice()),
@@ -76,9 +77,9 @@ fn at_name(alloc: Global, flaw: Flaw, name: &[u8]) -> Refusal
 }
 
 fn with_at(alloc: Global, name: &[u8]) -> Result<Bytes, NoMemory>
-    ensures { IfOk result (λ word. word ≡ 64 ∷ name.now) }
+    ensures { IfOk result (λ word. word ≡ AT_SIGN ∷ name.now) }
 {
-    let mut word = Bytes::copy(alloc, b"@")?;
+    let mut word = Bytes::copy(alloc, &[AT_SIGN])?;
     word.append(name)?;
     Ok(word)
 }
@@ -255,7 +256,7 @@ fn read_stated(alloc: Global, negated: bool, text: &[u8]) -> Result<Operator, Re
     ensures { Gives (λ o. o) result (stated negated text.now) }
 {
     match text {
-        [b'@', rest @ ..] => read_behind_at(alloc, negated, rest),
+        [AT_SIGN, rest @ ..] => read_behind_at(alloc, negated, rest),
         _ => read_argument(alloc, negated, text, OpKind::Rx),
     }
 }
@@ -271,7 +272,7 @@ pub fn read_operator(alloc: Global, word: &[u8]) -> Result<Operator, Refusal>
 {
     let text = trim_front(word);
     match text {
-        [b'!', rest @ ..] => read_stated(alloc, true, trim_front(rest)),
+        [EXCLAMATION_MARK, rest @ ..] => read_stated(alloc, true, trim_front(rest)),
         _ => read_stated(alloc, false, text),
     }
 }

@@ -9,16 +9,19 @@ ghost use Rattle.sec_parts.specs.Texts.{to_byte};
 ghost use Rattle.sec_parts.specs.Phrases.{addresses_of, as_it_is, ends_in_order, hex_bytes, in_order, byte_of, is_parting, is_range, next_word, phrase, phrase_part, phrases_of, range, ranges_of, up_to_bar, words_of};
 
 use crate::faults::{Refusal, bad_word};
+use crate::limits::MAX_BYTE;
 use crate::numbers::read_number;
 use crate::texts::{count_to, trim_front};
 use hex::FromHexError;
+use sec_text::characters::{BAR, COMMA, MINUS};
+use sec_text::is_blank_byte;
 use std::alloc::Global;
 use waf_plain::{Bytes, Seq};
 
 fn is_parting_byte(byte: u8) -> bool
     ensures { result ≡ is_parting byte }
 {
-    byte == b' ' || byte == b'\t' || byte == b','
+    is_blank_byte(byte) || byte == COMMA
 }
 
 fn count_parting(text: &[u8]) -> usize
@@ -48,7 +51,7 @@ pub fn count_to_blank(text: &[u8]) -> usize
     ensures within { result ≤ length text.now }
 {
     let mut count = 0;
-    while count < text.len() && text[count] != b' ' && text[count] != b'\t' {
+    while count < text.len() && !is_blank_byte(text[count]) {
         count += 1;
     }
     count
@@ -76,10 +79,10 @@ fn read_to_bar<'a>(
 ) -> Result<(Bytes, &'a [u8]), Refusal>
     ensures part { Gives (λ x.
         Some (x.0, x.1.now)) result
-        (up_to_bar whole.now (take (to_byte 124 text.now) text.now) (drop (to_byte 124 text.now) text.now)) }
+        (up_to_bar whole.now (take (to_byte BAR text.now) text.now) (drop (to_byte BAR text.now) text.now)) }
     ensures within { IfOk result (λ x. length (x.1).now ≤ length text.now) }
 {
-    let (digits, rest) = text.split_at(count_to(text, b'|'));
+    let (digits, rest) = text.split_at(count_to(text, BAR));
     match rest {
         [] => Err(bad_word(alloc, whole)),
         [_, after @ ..] => {
@@ -100,12 +103,12 @@ fn read_phrase_part<'a>(
 {
     match text {
         [] => Ok(None),
-        [b'|', rest @ ..] => {
+        [BAR, rest @ ..] => {
             let (bytes, after) = read_to_bar(alloc, whole, rest)?;
             Ok(Some((bytes, after)))
         }
         _ => {
-            let (bytes, after) = text.split_at(count_to(text, b'|'));
+            let (bytes, after) = text.split_at(count_to(text, BAR));
             Ok(Some((Bytes::copy(alloc, bytes)?, after)))
         }
     }
@@ -203,13 +206,13 @@ fn are_in_order(first: Option<u32>, last: Option<u32>) -> bool
 fn read_byte(text: &[u8]) -> Option<u32>
     ensures { result ≡ byte_of text.now }
 {
-    read_number(text, 0, 255)
+    read_number(text, 0, MAX_BYTE)
 }
 
 fn has_range_form(word: &[u8]) -> bool
     ensures { result ≡ is_range word.now }
 {
-    let (first, rest) = word.split_at(count_to(word, b'-'));
+    let (first, rest) = word.split_at(count_to(word, MINUS));
     match rest {
         [] => are_in_order(read_byte(first), read_byte(first)),
         [_, last @ ..] => are_in_order(read_byte(first), read_byte(last)),

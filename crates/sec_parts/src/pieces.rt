@@ -8,6 +8,7 @@ use crate::texts::{
     after_first, count_to, count_to_either, has_open_end, is_all_blank, piece_of, trim_back,
     trim_blanks, trim_front,
 };
+use sec_text::characters::{COLON, COMMA, SINGLE_QUOTE};
 use sec_text::read_quoted;
 use std::alloc::Global;
 use waf_plain::Bytes;
@@ -47,13 +48,14 @@ fn read_closed<'a>(
     here: &'a [u8],
 ) -> Result<(Piece, Option<&'a [u8]>), Refusal>
     requires { length here.now ≤ length text.now }
-    ensures piece { Gives (λ x. (x.0, option_copied x.1)) result (closed text.now name.now (quoted 39 here.now)) }
+    ensures piece { Gives (λ x. (x.0, option_copied x.1)) result
+        (closed text.now name.now (quoted SINGLE_QUOTE here.now)) }
     ensures shorter { IfOk result (λ x. IfSome x.1 (λ after. length after.now < length text.now)) }
 {
-    let Some((value, after)) = read_quoted(alloc, b'\'', here)? else {
+    let Some((value, after)) = read_quoted(alloc, SINGLE_QUOTE, here)? else {
         return Err(open_quote(alloc, trim_blanks(text)));
     };
-    let (gap, rest) = after.split_at(count_to(after, b','));
+    let (gap, rest) = after.split_at(count_to(after, COMMA));
     if is_all_blank(gap) {
         end_piece(alloc, text, name, Some(value), rest)
     } else {
@@ -71,7 +73,7 @@ fn read_plain<'a>(
     ensures piece { Gives (λ x. (x.0, option_copied x.1)) result (plain text.now name.now here.now) }
     ensures shorter { IfOk result (λ x. IfSome x.1 (λ after. length after.now < length text.now)) }
 {
-    let (value, rest) = here.split_at(count_to(here, b','));
+    let (value, rest) = here.split_at(count_to(here, COMMA));
     let value = trim_back(value);
     if has_open_end(value) {
         return Err(bad_word(alloc, piece_of(text, rest)));
@@ -90,7 +92,7 @@ fn read_valued<'a>(
     ensures shorter { IfOk result (λ x. IfSome x.1 (λ after. length after.now < length text.now)) }
 {
     match here {
-        [b'\'', rest @ ..] => read_closed(alloc, text, name, rest),
+        [SINGLE_QUOTE, rest @ ..] => read_closed(alloc, text, name, rest),
         _ => read_plain(alloc, text, name, here),
     }
 }
@@ -101,9 +103,9 @@ pub fn read_piece(alloc: Global, text: &[u8]) -> Result<(Piece, Option<&[u8]>), 
     ensures piece { Gives (λ x. (x.0, option_copied x.1)) result (piece_at text.now) }
     ensures shorter { IfOk result (λ x. IfSome x.1 (λ after. length after.now < length text.now)) }
 {
-    let (name, here) = text.split_at(count_to_either(text, b',', b':'));
+    let (name, here) = text.split_at(count_to_either(text, COMMA, COLON));
     match here {
-        [b':', rest @ ..] => read_valued(alloc, text, name, trim_front(rest)),
+        [COLON, rest @ ..] => read_valued(alloc, text, name, trim_front(rest)),
         _ => end_piece(alloc, text, name, None, here),
     }
 }

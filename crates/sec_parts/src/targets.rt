@@ -12,7 +12,8 @@ use crate::texts::{
 };
 use crate::variables::is_refused_variable;
 use sec_ast::{Select, Target, Var};
-use sec_text::read_quoted;
+use sec_text::characters::{AMPERSAND, BAR, COLON, EXCLAMATION_MARK, SINGLE_QUOTE, SLASH};
+use sec_text::{is_blank_byte, read_quoted};
 use std::alloc::Global;
 use waf_plain::{Bytes, NoMemory, Seq};
 
@@ -36,7 +37,7 @@ fn read_by_name(alloc: Global, here: &[u8]) -> Result<(Option<Select>, &[u8]), N
     ensures read { IfOk result (λ x. (x.0, x.1.now) ≡ by_name here.now) }
     ensures within { IfOk result (λ x. length (x.1).now ≤ length here.now) }
 {
-    let (name, rest) = here.split_at(count_to(here, b'|'));
+    let (name, rest) = here.split_at(count_to(here, BAR));
     let select = select_by_name(alloc, trim_back(name))?;
     Ok((select, rest))
 }
@@ -46,7 +47,7 @@ fn unless_followed(select: Option<Select>, after: &[u8]) -> (Option<Select>, &[u
     ensures read { (result.0, result.1.now) ≡ where_blank select after.now }
     ensures within { length (result.1).now ≤ length after.now }
 {
-    let (gap, rest) = after.split_at(count_to(after, b'|'));
+    let (gap, rest) = after.split_at(count_to(after, BAR));
     if is_all_blank(gap) {
         return (select, rest);
     }
@@ -54,10 +55,10 @@ fn unless_followed(select: Option<Select>, after: &[u8]) -> (Option<Select>, &[u
 }
 
 fn read_by_pattern(alloc: Global, here: &[u8]) -> Result<(Option<Select>, &[u8]), NoMemory>
-    ensures read { IfOk result (λ x. (x.0, x.1.now) ≡ by_pattern (quoted 47 here.now)) }
+    ensures read { IfOk result (λ x. (x.0, x.1.now) ≡ by_pattern (quoted SLASH here.now)) }
     ensures within { IfOk result (λ x. length (x.1).now ≤ length here.now) }
 {
-    match read_quoted(alloc, b'/', here)? {
+    match read_quoted(alloc, SLASH, here)? {
         Some((pattern, after)) => Ok(unless_followed(Some(Select::Pattern(pattern)), after)),
         None => Ok((None, here.split_at(here.len()).1)),
     }
@@ -68,14 +69,14 @@ fn ends_blank(text: &[u8]) -> bool
 {
     match text {
         [] => false,
-        [.., last] => *last == b' ' || *last == b'\t',
+        [.., last] => is_blank_byte(*last),
     }
 }
 
 fn select_by_quoted_name(alloc: Global, text: &[u8]) -> Result<Option<Select>, NoMemory>
     ensures { IfOk result (λ s. s ≡ quoted_name text.now) }
 {
-    if text.contains(&b'|') || ends_blank(text) {
+    if text.contains(&BAR) || ends_blank(text) {
         return Ok(None);
     }
     select_by_name(alloc, text)
@@ -87,10 +88,10 @@ fn read_quoted_pattern<'a>(
     text: &[u8],
     after: &'a [u8],
 ) -> Result<(Option<Select>, &'a [u8]), NoMemory>
-    ensures read { IfOk result (λ x. (x.0, x.1.now) ≡ quoted_pattern (quoted 47 text.now) after.now) }
+    ensures read { IfOk result (λ x. (x.0, x.1.now) ≡ quoted_pattern (quoted SLASH text.now) after.now) }
     ensures within { IfOk result (λ x. length (x.1).now ≤ length after.now) }
 {
-    match read_quoted(alloc, b'/', text)? {
+    match read_quoted(alloc, SLASH, text)? {
         Some((pattern, gap)) => {
             if is_all_blank(gap) {
                 return Ok(unless_followed(Some(Select::Pattern(pattern)), after));
@@ -110,7 +111,7 @@ fn read_in_quotes<'a>(
     ensures within { IfOk result (λ x. length (x.1).now ≤ length after.now) }
 {
     match text {
-        [b'/', pattern @ ..] => read_quoted_pattern(alloc, pattern, after),
+        [SLASH, pattern @ ..] => read_quoted_pattern(alloc, pattern, after),
         _ => Ok(unless_followed(select_by_quoted_name(alloc, text)?, after)),
     }
 }
@@ -119,7 +120,7 @@ fn read_by_quote(alloc: Global, here: &[u8]) -> Result<(Option<Select>, &[u8]), 
     ensures read { IfOk result (λ x. (x.0, x.1.now) ≡ by_quote here.now) }
     ensures within { IfOk result (λ x. length (x.1).now ≤ length here.now) }
 {
-    let (text, rest) = here.split_at(count_to(here, b'\''));
+    let (text, rest) = here.split_at(count_to(here, SINGLE_QUOTE));
     match rest {
         [] => Ok((None, rest)),
         [_, after @ ..] => read_in_quotes(alloc, text, after),
@@ -131,8 +132,8 @@ fn read_selector(alloc: Global, here: &[u8]) -> Result<(Option<Select>, &[u8]), 
     ensures within { IfOk result (λ x. length (x.1).now ≤ length here.now) }
 {
     match here {
-        [b'/', rest @ ..] => read_by_pattern(alloc, rest),
-        [b'\'', rest @ ..] => read_by_quote(alloc, rest),
+        [SLASH, rest @ ..] => read_by_pattern(alloc, rest),
+        [SINGLE_QUOTE, rest @ ..] => read_by_quote(alloc, rest),
         _ => read_by_name(alloc, here),
     }
 }
@@ -228,9 +229,9 @@ fn read_unmarked<'a>(
     ensures target { Gives (λ x. (x.0, option_copied x.1)) result (unmarked marks text.now here.now) }
     ensures shorter { IfOk result (λ x. IfSome x.1 (λ after. length after.now < length text.now)) }
 {
-    let (name, rest) = here.split_at(count_to_either(here, b'|', b':'));
+    let (name, rest) = here.split_at(count_to_either(here, BAR, COLON));
     match rest {
-        [b':', behind @ ..] => {
+        [COLON, behind @ ..] => {
             let var = Var::named(name);
             let (select, rest) = read_selector_of(alloc, var, behind)?;
             read_found(alloc, marks, text, name, var, select, rest)
@@ -250,14 +251,14 @@ fn read_target(alloc: Global, text: &[u8]) -> Result<(Target, Option<&[u8]>), Re
 {
     let here = trim_front(text);
     match here {
-        [b'!', rest @ ..] => {
+        [EXCLAMATION_MARK, rest @ ..] => {
             let marks = Marks {
                 count: false,
                 exclude: true,
             };
             read_unmarked(alloc, marks, text, rest)
         }
-        [b'&', rest @ ..] => {
+        [AMPERSAND, rest @ ..] => {
             let marks = Marks {
                 count: true,
                 exclude: false,

@@ -3,6 +3,7 @@ ghost use Rattle.std.specs.List.{list_all};
 ghost use Rattle.sec_text.specs.Quotes.{is_blank};
 ghost use Rattle.sec_parts.specs.Texts.{begins_named, behind_first, ends_open, piece_before, skip_blanks, to_byte, to_either, trim, trim_end};
 
+use sec_text::characters::BACKSLASH;
 use sec_text::{Margin, is_blank_byte};
 
 pub fn trim_front(text: &[u8]) -> &[u8]
@@ -58,7 +59,7 @@ pub fn has_open_end(text: &[u8]) -> bool
 {
     match text {
         [] => false,
-        [.., last] => *last == b'\\',
+        [.., last] => *last == BACKSLASH,
     }
 }
 

@@ -4,6 +4,7 @@ use Rattle.sec_ast.specs.declared.Disrupt.TheVariants as disrupts
 use Rattle.sec_parts.specs.declared.acts.Acts.{Acts}
 use Rattle.sec_read.specs.declared.defaults.PhaseDefault.{PhaseDefault}
 use Rattle.sec_read.specs.declared.defaults.Defaults.{Defaults}
+use Rattle.sec_read.specs.declared.defaults.TheConstants.{REQUEST_BODY, REQUEST_HEADERS, RESPONSE_BODY, RESPONSE_HEADERS}
 
 -- those at the start
 abbrev pub first_default : PhaseDefault
@@ -26,19 +27,19 @@ default_of acts = record {
   log = unwrap_or acts.log first_default.log;
 }
 
--- of each phase, 1 to 5
+-- of each phase; the last is the logging's
 unfoldable pub default_at : ℕ → Defaults → PhaseDefault
 default_at phase defaults =
-    if phase == 1 then defaults.request_headers
-    else (if phase == 2 then defaults.request_body
-    else (if phase == 3 then defaults.response_headers
-    else (if phase == 4 then defaults.response_body
+    if phase == REQUEST_HEADERS then defaults.request_headers
+    else (if phase == REQUEST_BODY then defaults.request_body
+    else (if phase == RESPONSE_HEADERS then defaults.response_headers
+    else (if phase == RESPONSE_BODY then defaults.response_body
     else defaults.logging)))
 
 unfoldable pub with_default : ℕ → PhaseDefault → Defaults → Defaults
 with_default phase default defaults =
-    if phase == 1 then record defaults { request_headers = default }
-    else (if phase == 2 then record defaults { request_body = default }
-    else (if phase == 3 then record defaults { response_headers = default }
-    else (if phase == 4 then record defaults { response_body = default }
+    if phase == REQUEST_HEADERS then record defaults { request_headers = default }
+    else (if phase == REQUEST_BODY then record defaults { request_body = default }
+    else (if phase == RESPONSE_HEADERS then record defaults { response_headers = default }
+    else (if phase == RESPONSE_BODY then record defaults { response_body = default }
     else record defaults { logging = default })))

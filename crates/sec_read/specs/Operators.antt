@@ -39,13 +39,17 @@ checked operator = unless_bad (if is_of_addresses operator.op.kind then first_ba
 abbrev pub with_words : Operator → List (List ℕ) → Operator
 with_words operator words = record operator { op = record operator.op { words = words } }
 
--- where its words stand in a file it takes them from there; a number counts the bytes of texts
+-- with the words of a text that a directive in a file and line names by a word; a number counts the bytes of texts
+abbrev pub filled_from : List ℕ → ℕ → List ℕ → Option (List ℕ) → Operator → ℕ → Result (Operator × ℕ) Found
+filled_from file line word content operator total =
+    admitted file line word content total >>= λ text. Ok (with_words operator (words_in text.content), text.total)
+
+-- where its words stand in a file it takes them from there
 abbrev pub filled : Named → List ℕ → ℕ → Option (List ℕ) → Operator → ℕ → Result (Operator × ℕ) Found
 filled files file line None operator total = Ok (operator, total)
 filled files file line (Some word) operator total =
     if has_wildcard word then fault file line causes.RefusedByName word
-    else (admitted file line word (files (beside file word)) total >>= λ text.
-    Ok (with_words operator (words_in text.content), text.total))
+    else filled_from file line word (files (beside file word)) operator total
 
 -- once its addresses are some
 abbrev pub checked_at : List ℕ → ℕ → Operator × ℕ → Result (Operator × ℕ) Found

@@ -5,6 +5,15 @@ use sec_ast::Disrupt;
 use sec_parts::Acts;
 use waf_plain::NoMemory;
 
+// The phase of the headers of a request.
+pub const REQUEST_HEADERS: u8 = 1;
+// The phase of the body of a request.
+pub const REQUEST_BODY: u8 = 2;
+// The phase of the headers of a response.
+pub const RESPONSE_HEADERS: u8 = 3;
+// The phase of the body of a response.
+pub const RESPONSE_BODY: u8 = 4;
+
 // What a rule of one phase does that does not say it.
 #[derive(Drop)]
 pub struct PhaseDefault {
@@ -13,7 +22,7 @@ pub struct PhaseDefault {
     pub log: bool,
 }
 
-// The defaults of each phase, 1 to 5.
+// The defaults of each phase.
 #[derive(Drop)]
 pub struct Defaults {
     pub request_headers: PhaseDefault,
@@ -75,10 +84,10 @@ impl Defaults {
         ensures { result.now ≡ default_at phase self.now }
     {
         match phase {
-            1 => &self.request_headers,
-            2 => &self.request_body,
-            3 => &self.response_headers,
-            4 => &self.response_body,
+            REQUEST_HEADERS => &self.request_headers,
+            REQUEST_BODY => &self.request_body,
+            RESPONSE_HEADERS => &self.response_headers,
+            RESPONSE_BODY => &self.response_body,
             _ => &self.logging,
         }
     }
@@ -89,10 +98,10 @@ impl Defaults {
         ensures { self.new ≡ with_default phase default self.old }
     {
         match phase {
-            1 => self.request_headers = default,
-            2 => self.request_body = default,
-            3 => self.response_headers = default,
-            4 => self.response_body = default,
+            REQUEST_HEADERS => self.request_headers = default,
+            REQUEST_BODY => self.request_body = default,
+            RESPONSE_HEADERS => self.response_headers = default,
+            RESPONSE_BODY => self.response_body = default,
             _ => self.logging = default,
         }
     }

@@ -10,7 +10,7 @@ use std::mem;
 use waf_plain::{Bytes, NoMemory, Seq};
 
 // How many rules a listing has at most.
-const RULE_LIMIT: u32 = 20_000;
+pub const RULE_LIMIT: u32 = 20_000;
 
 // The items of a listing, in reading order. Beside them lie the set of their rules' identifiers and
 // the number of rules, so that each test takes the time of one look-up.

@@ -20,7 +20,7 @@ use waf_io::Files;
 use waf_plain::{Bytes, NoMemory, Seq};
 
 // How many links a rule has at most.
-const LINK_LIMIT: u64 = 32;
+pub const LINK_LIMIT: u64 = 32;
 
 // The phase of a rule that names none.
 const DEFAULT_PHASE: u8 = 2;

@@ -1,7 +1,7 @@
 ghost use Rattle.std.specs.Prelude.{◌≡◌, ◌≤◌, IfErr, IfSome, Some, true};
 ghost use Rattle.sec_parts.specs.Results.{Gives};
 ghost use Rattle.waf_io.specs.Counts.{Rose};
-ghost use Rattle.sec_read.specs.Operators.{checked, filled, operator_at, with_words};
+ghost use Rattle.sec_read.specs.Operators.{checked, filled, filled_from, operator_at, with_words};
 ghost use Rattle.sec_parts.specs.Operators.{operator_of};
 ghost use Rattle.sec_read.specs.Places.{operator_file};
 ghost use Rattle.sec_read.specs.Results.{Answers, IsSpot, Tells, WhereUnread, is_unread};
@@ -49,6 +49,29 @@ fn put_words(operator: Operator, words: Seq<Bytes>) -> Operator
     }
 }
 
+// The words of the file of this name, which a word in a line stands for, and how many bytes of texts were
+// read by then.
+fn fetch_words<F: Files>(
+    alloc: Global,
+    files: &mut F,
+    at: At<'_>,
+    word: &[u8],
+    name: &[u8],
+    total: u64,
+) -> Result<(Seq<Bytes>, u64), Halt>
+    ensures same { F.content files.new ≡ F.content files.old }
+    ensures later { F.faults files.old ≤ F.faults files.new }
+    ensures cause { IfErr result (λ halt. is_unread halt ≡ true → Rose (F.faults files.old) (F.faults files.new)) }
+    ensures place { IfErr result (λ halt. WhereUnread halt (IsSpot at.entry.file.now at.entry.line (Some word.now))) }
+    ensures told { IfSome (F.content files.old) (λ told. (operator : Operator)
+        → Tells (λ found. (with_words operator found.0, found.1)) result
+        (filled_from at.entry.file.now at.entry.line word.now (told name.now) operator total)) }
+{
+    let text = fetch(alloc, files, at, word, name, total)?;
+    let words = words_of_text(alloc, text.content.as_slice())?;
+    Ok((words, text.total))
+}
+
 // The words of the file that an operator names, and how many bytes of texts were read by then.
 fn read_words<F: Files>(
     alloc: Global,
@@ -69,9 +92,7 @@ fn read_words<F: Files>(
         return Err(at.fault(alloc, Cause::RefusedByName, word));
     }
     let name = name_beside(alloc, at.file, word)?;
-    let text = fetch(alloc, files, at, word, name.as_slice(), total)?;
-    let words = words_of_text(alloc, text.content.as_slice())?;
-    Ok((words, text.total))
+    fetch_words(alloc, files, at, word, name.as_slice(), total)
 }
 
 // The operator with the words of the file that it names, if it names one.

@@ -7,7 +7,7 @@ use sec_parts::{read_number, read_switch};
 // How many bytes of a request's body are read where no directive says it, and at most.
 const FIRST_REQUEST_LIMIT: u64 = 131_072;
 
-const MAX_REQUEST_LIMIT: u32 = 1_073_741_824;
+pub const MAX_REQUEST_LIMIT: u32 = 1_073_741_824;
 
 // A directive that sets something for the whole listing.
 #[derive(Clone, Copy)]

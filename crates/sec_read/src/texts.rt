@@ -13,7 +13,7 @@ use waf_io::{FileAnswer, Files};
 use waf_plain::{Bytes, NoMemory, Seq};
 
 // How many bytes a file has at most, and all texts together.
-const FILE_LIMIT: u64 = 4_194_304;
+pub const FILE_LIMIT: u64 = 4_194_304;
 
 const TEXT_LIMIT: u64 = 16_777_216;
 

@@ -17,7 +17,9 @@ use Rattle.sec_ast.specs.declared.settings.Processor.{Processor}
 use Rattle.sec_ast.specs.declared.settings.Processor.TheVariants as processors
 use Rattle.sec_text.specs.Quotes.{is_blank}
 use Rattle.sec_text.specs.Written.{ends_with_backslash}
+use Rattle.sec_text.specs.declared.characters.TheConstants.{COMMA, EQUALS, MINUS, PLUS, SINGLE_QUOTE}
 use Rattle.sec_parts.specs.declared.acts.Acts.{Acts}
+use Rattle.sec_parts.specs.declared.limits.TheConstants.{MAX_ID, MAX_PHASE, MAX_SKIP, MAX_STATUS, MIN_STATUS}
 use Rattle.sec_parts.specs.Acts.{no_acts}
 use Rattle.sec_parts.specs.Texts.{ends_open, trim_end}
 use Rattle.sec_round_trip.specs.Macros.{IsMacro}
@@ -26,12 +28,12 @@ use Rattle.sec_round_trip.specs.Targets.{is_empty}
 -- ---- values without quotes
 
 abbrev pub is_comma : ℕ → Bool
-is_comma b = b == 44
+is_comma b = b == COMMA
 
 -- a value that needs no quotes
 abbrev pub begins_unquoted : List ℕ → Bool
 begins_unquoted [] = false
-begins_unquoted (b ∷ text) = not (is_blank b) && not (b == 39)
+begins_unquoted (b ∷ text) = not (is_blank b) && not (b == SINGLE_QUOTE)
 
 pub record IsPlainValue (value : List ℕ) : Type 0 where
   pub commas : list_any is_comma value ≡ false
@@ -64,11 +66,11 @@ IsNumber low high n = (n == 0) ≡ false → (low ≤ n) × (n ≤ high)
 -- + and - at the front of a value add and subtract
 abbrev pub begins_with_sign : List ℕ → Bool
 begins_with_sign [] = false
-begins_with_sign (b ∷ text) = (b == 43) || (b == 45)
+begins_with_sign (b ∷ text) = (b == PLUS) || (b == MINUS)
 
 -- a name ends at the first =
 abbrev pub has_equals : List ℕ → Bool
-has_equals text = list_any (λ b. b == 61) text
+has_equals text = list_any (λ b. b == EQUALS) text
 
 abbrev pub IsChange : List ℕ → Change → Type 0
 IsChange name (changes.Put value) = (has_equals name ≡ false) × IsMacro value
@@ -89,7 +91,7 @@ IsProcessor other = Unit {0}
 
 abbrev pub IsSetting : Ctl → Type 0
 IsSetting (ctls.Body processor) = IsProcessor processor
-IsSetting (ctls.RemoveById first last) = (1 ≤ first) × (first ≤ last) × (last ≤ 999999999)
+IsSetting (ctls.RemoveById first last) = (1 ≤ first) × (first ≤ last) × (last ≤ MAX_ID)
 IsSetting (ctls.RemoveByTag tag) = is_empty tag ≡ false
 IsSetting other = Unit {0}
 
@@ -99,14 +101,14 @@ IsCtl ctl = IsSetting ctl × IsValue (change_of_setting ctl)
 -- ---- the actions of a rule and of a link
 
 pub record IsHead (rule : Rule) : Type 0 where
-  pub id : (1 ≤ rule.id) × (rule.id ≤ 999999999)
-  pub phase : (1 ≤ rule.phase) × (rule.phase ≤ 5)
+  pub id : (1 ≤ rule.id) × (rule.id ≤ MAX_ID)
+  pub phase : (1 ≤ rule.phase) × (rule.phase ≤ MAX_PHASE)
   pub disrupt : IsDisrupt rule.disrupt
-  pub status : IsNumber 100 999 rule.status
+  pub status : IsNumber MIN_STATUS MAX_STATUS rule.status
   pub msg : IsMacroValue rule.msg
   pub logdata : IsMacroValue rule.logdata
   pub tags : AllByRecursion IsValue rule.tags
-  pub skip : IsNumber 1 20000 rule.skip
+  pub skip : IsNumber 1 MAX_SKIP rule.skip
   pub label : IsLabel rule.skip_after
 
 pub record IsTail (link : Link) : Type 0 where

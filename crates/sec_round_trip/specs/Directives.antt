@@ -11,6 +11,7 @@ use Rattle.sec_ast.specs.declared.listing.Item.TheVariants as items
 use Rattle.sec_ast.specs.declared.listing.Listing.{Listing}
 use Rattle.sec_text.specs.Lines.{is_line_feed}
 use Rattle.sec_text.specs.Written.{ends_with_backslash}
+use Rattle.sec_text.specs.declared.characters.TheConstants.{COMMA}
 use Rattle.sec_round_trip.specs.Lines.{written}
 
 -- a name and words
@@ -37,7 +38,7 @@ link_directive link actions =
 unfoldable pub directives_behind : List (List ℕ) → List Link → List Directive
 directives_behind pieces [] = []
 directives_behind pieces (link ∷ links) =
-    link_directive link (join_with_byte 44 (pieces ++ link_pieces link (is_more links))) ∷ directives_behind [] links
+    link_directive link (join_with_byte COMMA (pieces ++ link_pieces link (is_more links))) ∷ directives_behind [] links
 
 abbrev pub item_directives : Item → List Directive
 item_directives (items.Rule rule) = directives_behind (rule_pieces rule) rule.links

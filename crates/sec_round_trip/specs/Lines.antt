@@ -1,14 +1,15 @@
 -- Printed lines.
-use Rattle.std.specs.Prelude.{ℕ, Bool, true, false, not, ◌&&◌, nat_lt, List, [], ◌∷◌, ◌++◌}
+use Rattle.std.specs.Prelude.{ℕ, Bool, true, false, not, ◌&&◌, List, [], ◌∷◌, ◌++◌}
+use Rattle.std.specs.Char.{is_ascii}
 use Rattle.std.specs.List.{flat_map}
 use Rattle.sec_ast.specs.PrintTexts.{spread}
 use Rattle.sec_text.specs.Lines.{is_line_feed}
 use Rattle.sec_text.specs.Quotes.{is_blank}
 use Rattle.sec_text.specs.Words.{is_plain}
 
--- an ASCII byte but the line feed
+-- a character of ASCII but the line feed
 abbrev pub is_printed : ℕ → Bool
-is_printed b = nat_lt b 128 && not (is_line_feed b)
+is_printed b = is_ascii b && not (is_line_feed b)
 
 abbrev pub has_no_blank : List ℕ → Bool
 has_no_blank [] = true

@@ -1,5 +1,5 @@
 -- Operators that are read back from their text.
-use Rattle.std.specs.Prelude.{◌≡◌, ℕ, Bool, true, false, nat_lt, List, [], ◌∷◌}
+use Rattle.std.specs.Prelude.{◌≡◌, ℕ, ◌+◌, Bool, true, false, nat_lt, List, [], ◌∷◌}
 use Rattle.std.specs.List.{AllByRecursion, list_all, list_any}
 use Rattle.sec_ast.specs.PrintOperators.{argument_text}
 use Rattle.sec_ast.specs.declared.macros.Part.{Part}
@@ -8,14 +8,18 @@ use Rattle.sec_ast.specs.declared.operator.Op.{Op}
 use Rattle.sec_ast.specs.declared.operator.OpKind.{OpKind}
 use Rattle.sec_ast.specs.declared.operator.OpKind.TheVariants as kinds
 use Rattle.sec_text.specs.Quotes.{is_blank}
+use Rattle.sec_parts.specs.declared.limits.TheConstants.{MAX_BYTE}
 use Rattle.sec_parts.specs.Phrases.{is_parting, is_range}
 use Rattle.sec_round_trip.specs.Macros.{IsMacro}
 use Rattle.sec_round_trip.specs.Targets.{is_empty}
 
+abbrev pub is_byte : ℕ → Bool
+is_byte b = nat_lt b (MAX_BYTE + 1)
+
 -- ---- words: at least one byte, and none that parts words
 
 abbrev pub IsPhrase : List ℕ → Type 0
-IsPhrase phrase = (is_empty phrase ≡ false) × (list_all (λ b. nat_lt b 256) phrase ≡ true)
+IsPhrase phrase = (is_empty phrase ≡ false) × (list_all is_byte phrase ≡ true)
 
 abbrev pub IsAddress : List ℕ → Type 0
 IsAddress word = (is_empty word ≡ false) × (list_any is_parting word ≡ false)

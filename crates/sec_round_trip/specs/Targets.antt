@@ -7,6 +7,7 @@ use Rattle.sec_ast.specs.declared.target.Select.TheVariants as selects
 use Rattle.sec_ast.specs.declared.target.Target.{Target}
 use Rattle.sec_ast.specs.declared.variable.Var.{Var}
 use Rattle.sec_text.specs.Written.{ends_with_backslash}
+use Rattle.sec_text.specs.declared.characters.TheConstants.{BAR, SINGLE_QUOTE, SLASH}
 use Rattle.sec_parts.specs.Targets.{is_xml}
 use Rattle.sec_parts.specs.Texts.{ends_open, trim_end}
 
@@ -17,13 +18,13 @@ is_empty (b ∷ name) = false
 -- where a name is read as one: not a pattern between slashes, nor one in single quotes
 abbrev pub is_unmarked : List ℕ → Bool
 is_unmarked [] = false
-is_unmarked (b ∷ name) = not (b == 47) && not (b == 39)
+is_unmarked (b ∷ name) = not (b == SLASH) && not (b == SINGLE_QUOTE)
 
 -- a name of at least one byte that holds no bar, and ends neither with a blank nor with a backslash
 pub record IsName (var : Var) (name : List ℕ) : Type 0 where
   pub collection : is_collection var ≡ true
   pub unmarked : (is_xml (Some var) || is_unmarked name) ≡ true
-  pub bars : list_any (λ b. b == 124) name ≡ false
+  pub bars : list_any (λ b. b == BAR) name ≡ false
   pub trimmed : trim_end name ≡ name
   pub some : is_empty name ≡ false
   pub ends : ends_open name ≡ false

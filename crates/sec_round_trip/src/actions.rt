@@ -6,6 +6,7 @@ ghost use Rattle.sec_ast.specs.Transform.{transform_name};
 ghost use Rattle.sec_ast.specs.declared.link.Link.{Link};
 ghost use Rattle.sec_ast.specs.declared.rule.Rule.{Rule};
 ghost use Rattle.sec_ast.specs.declared.transform.Transform.{Transform};
+ghost use Rattle.sec_text.specs.declared.characters.TheConstants.{COMMA};
 ghost use Rattle.sec_parts.specs.Actions.{is_word};
 ghost use Rattle.sec_parts.specs.Acts.{actions_in, no_acts};
 ghost use Rattle.sec_parts.specs.Kinds.{is_refused_transform};
@@ -29,7 +30,7 @@ pub fn names_of_transforms()
 /// The round trip of the actions of a later link, where there are any.
 pub fn printed_link_actions_are_read()
     ensures { (link : Link) (follows : Bool) → IsTail link → has_pieces (link_pieces link follows) ≡ true
-        → actions_in stands.Later (join_with_byte 44 (link_pieces link follows)) ≡ Ok (with_link link follows no_acts) }
+        → actions_in stands.Later (join_with_byte COMMA (link_pieces link follows)) ≡ Ok (with_link link follows no_acts) }
 {
     names_of_transforms();
     transform_of_its_name();
@@ -40,7 +41,7 @@ pub fn printed_link_actions_are_read()
 /// The round trip of the actions of a rule and its first link.
 pub fn printed_rule_actions_are_read()
     ensures { (rule : Rule) (link : Link) (follows : Bool) → IsHead rule → IsTail link
-        → actions_in stands.First (join_with_byte 44 (rule_pieces rule ++ link_pieces link follows))
+        → actions_in stands.First (join_with_byte COMMA (rule_pieces rule ++ link_pieces link follows))
         ≡ Ok (with_link link follows (of_rule rule)) }
 {
     names_of_transforms();

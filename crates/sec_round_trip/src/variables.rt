@@ -6,6 +6,7 @@ ghost use Rattle.sec_parts.specs.Macros.{is_close};
 ghost use Rattle.sec_parts.specs.Texts.{trim, trim_end};
 ghost use Rattle.sec_parts.specs.Variables.{is_refused_variable};
 ghost use Rattle.sec_text.specs.Written.{ends_with_backslash};
+ghost use Rattle.sec_text.specs.declared.characters.TheConstants.{BAR, COLON, DOT};
 ghost use Rattle.sec_round_trip.specs.Actions.{has_equals};
 ghost use Rattle.sec_round_trip.specs.Lines.{is_printed};
 ghost use Rattle.sec_round_trip.specs.Variables.{begins_name};
@@ -15,9 +16,9 @@ ghost use Rattle.sec_round_trip.specs.Variables.{begins_name};
 #[tactic(auto, unfolding(sec_parts::specs::Variables::is_refused_variable))]
 pub fn names_of_variables()
     ensures allowed { (var : Var) → is_refused_variable (variable_name var) ≡ false }
-    ensures dots { (var : Var) → list_any (λ b. b == 46) (variable_name var) ≡ false }
+    ensures dots { (var : Var) → list_any (λ b. b == DOT) (variable_name var) ≡ false }
     ensures closes { (var : Var) → list_any is_close (variable_name var) ≡ false }
-    ensures bars { (var : Var) → list_any (λ b. (b == 124) || (b == 58)) (variable_name var) ≡ false }
+    ensures bars { (var : Var) → list_any (λ b. (b == BAR) || (b == COLON)) (variable_name var) ≡ false }
     ensures begins { (var : Var) → begins_name (variable_name var) ≡ true }
     ensures trimmed { (var : Var) → trim (variable_name var) ≡ variable_name var }
     ensures ends { (var : Var) → trim_end (variable_name var) ≡ variable_name var }

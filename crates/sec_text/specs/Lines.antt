@@ -6,13 +6,14 @@ use Rattle.std.specs.Str.Lossy.{utf8_valid_len}
 use Rattle.sec_text.specs.declared.line.Line.{Line}
 use Rattle.sec_text.specs.declared.faults.TextFault.{TextFault}
 use Rattle.sec_text.specs.declared.faults.TextFault.TheVariants as faults
+use Rattle.sec_text.specs.declared.characters.TheConstants.{BACKSLASH, CARRIAGE_RETURN, HASH, LINE_FEED}
 use Rattle.sec_text.specs.declared.lines.TheConstants.{LINE_LIMIT}
 use Rattle.sec_text.specs.Quotes.{is_blank}
 
 -- ---- physical lines: parted by LF, trimmed, with their numbers from 1 on
 
 abbrev pub is_trimmed : ℕ → Bool
-is_trimmed b = is_blank b || (b == 13)
+is_trimmed b = is_blank b || (b == CARRIAGE_RETURN)
 
 abbrev pub trim_end : List ℕ → List ℕ
 trim_end text = take (length text - suffix_len is_trimmed text) text
@@ -21,7 +22,7 @@ abbrev pub trim : List ℕ → List ℕ
 trim text = trim_end (drop (prefix_len is_trimmed text) text)
 
 abbrev pub is_line_feed : ℕ → Bool
-is_line_feed b = b == 10
+is_line_feed b = b == LINE_FEED
 
 abbrev pub physical_from : ℕ → List (List ℕ) → List (ℕ × List ℕ)
 physical_from number parts = enumerate_from number (map trim parts)
@@ -33,7 +34,7 @@ physical text = physical_from 1 (slice_split is_line_feed text)
 
 -- a physical line goes on where it ends with \
 abbrev pub goes_on : List ℕ → Bool
-goes_on text = slice_index text (length text - 1) == 92
+goes_on text = slice_index text (length text - 1) == BACKSLASH
 
 -- where it goes on, that \ is dropped and further text follows directly
 abbrev pub joined : List ℕ → List ℕ → List ℕ
@@ -47,7 +48,7 @@ text_here (p ∷ ps) = joined p.1 (text_here ps)
 -- an empty line, or one that begins with #
 abbrev pub is_passed : List ℕ → Bool
 is_passed [] = true
-is_passed (b ∷ rest) = b == 35
+is_passed (b ∷ rest) = b == HASH
 
 -- a logical line before others, where it is not empty
 abbrev pub before : ℕ → List ℕ → List Line → List Line

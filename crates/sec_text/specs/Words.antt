@@ -1,6 +1,7 @@
 -- The words of a logical line.
 use Rattle.std.specs.Prelude.{◌≡◌, ℕ, suc, ◌-◌, ◌==◌, Bool, true, ◌&&◌, not, List, [], ◌∷◌, length, drop, take, slice_index, Option, Some, None, Result, Ok, Err, if◌then◌else◌}
 use Rattle.std.specs.List.{prefix_len, list_any}
+use Rattle.sec_text.specs.declared.characters.TheConstants.{BACKSLASH, QUOTE}
 use Rattle.sec_text.specs.declared.faults.WordFault.{WordFault}
 use Rattle.sec_text.specs.declared.faults.WordFault.TheVariants as faults
 use Rattle.sec_text.specs.Readers.{ReadsAll, repeat}
@@ -21,7 +22,7 @@ closed (Some x) = if is_apart x.1 then Ok (Some x) else Err faults.BadWord
 
 -- a plain word has no quote in it and does not end with \
 abbrev pub is_plain : List ℕ → Bool
-is_plain word = not (list_any (λ b. b == 34) word) && not (slice_index word (length word - 1) == 92)
+is_plain word = not (list_any (λ b. b == QUOTE) word) && not (slice_index word (length word - 1) == BACKSLASH)
 
 abbrev pub plain_end : List ℕ → ℕ
 plain_end bytes = prefix_len (λ b. not (is_blank b)) bytes
@@ -35,7 +36,7 @@ plain bytes =
 -- the word that begins here
 abbrev pub word_here : List ℕ → Read
 word_here [] = Ok None
-word_here (b ∷ rest) = if b == 34 then closed (quoted 34 rest) else plain (b ∷ rest)
+word_here (b ∷ rest) = if b == QUOTE then closed (quoted QUOTE rest) else plain (b ∷ rest)
 
 -- the next word, behind blanks
 unfoldable pub next_word : List ℕ → Read

@@ -1,6 +1,7 @@
 -- Lines as they are written.
 use Rattle.std.specs.Prelude.{◌≡◌, ℕ, ◌+◌, false, List, [], ◌∷◌, ◌++◌}
 use Rattle.std.specs.List.{All}
+use Rattle.sec_text.specs.declared.characters.TheConstants.{LINE_FEED}
 use Rattle.sec_text.specs.declared.line.Line.{Line}
 use Rattle.sec_text.specs.Lines.{is_line_feed, trim, goes_on, is_passed}
 
@@ -13,7 +14,7 @@ pub record IsWhole (text : List ℕ) : Type 0 where
 
 abbrev pub written_lines : List (List ℕ) → List ℕ
 written_lines [] = []
-written_lines (text ∷ texts) = text ++ 10 ∷ written_lines texts
+written_lines (text ∷ texts) = text ++ LINE_FEED ∷ written_lines texts
 
 abbrev pub numbered : ℕ → List (List ℕ) → List Line
 numbered n [] = []

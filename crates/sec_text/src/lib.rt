@@ -10,6 +10,7 @@
 //! What they mean is `lines_of` of `specs/Lines.antt` and `words` of `specs/Words.antt`.
 #![tactic(auto)]
 
+pub mod characters;
 mod faults;
 mod line;
 mod lines;

@@ -8,6 +8,7 @@ ghost use Rattle.sec_text.specs.Quotes.{is_blank};
 ghost use Rattle.sec_text.specs.Lines.{trim, is_line_feed, goes_on, joined, text_here, is_passed, before, lines_in, logical, first_long, fault_line, AnswersLines};
 ghost use Rattle.sec_text.specs.Joining.{made, parts};
 
+use crate::characters::{BACKSLASH, HASH, LINE_FEED};
 use crate::faults::TextFault;
 use crate::line::Line;
 use crate::margins::{Margin, trim_end, trim_start};
@@ -15,7 +16,7 @@ use std::alloc::Global;
 use waf_plain::{Bytes, NoMemory, Seq};
 
 // How many bytes a logical line has at most.
-const LINE_LIMIT: usize = 65536;
+pub const LINE_LIMIT: usize = 65536;
 
 /// The text without the spaces, tabs and carriage returns at both ends.
 pub fn trimmed(text: &[u8]) -> &[u8]
@@ -30,7 +31,7 @@ fn ends_open(text: &[u8]) -> bool
 {
     match text {
         [] => false,
-        [.., last] => *last == b'\\',
+        [.., last] => *last == BACKSLASH,
     }
 }
 
@@ -40,7 +41,7 @@ pub fn is_passed_over(text: &[u8]) -> bool
 {
     match text {
         [] => true,
-        [first, ..] => *first == b'#',
+        [first, ..] => *first == HASH,
     }
 }
 
@@ -50,7 +51,7 @@ fn count_before_line_feed(text: &[u8]) -> usize
     ensures within { result ≤ length text.now }
 {
     let mut count = 0;
-    while count < text.len() && text[count] != b'\n' {
+    while count < text.len() && text[count] != LINE_FEED {
         count += 1;
     }
     count
@@ -152,7 +153,7 @@ fn join_lines(alloc: Global, text: &[u8]) -> Result<Seq<Line>, NoMemory>
 fn count_line_feeds(text: &[u8]) -> usize
     ensures { result ≡ count_by is_line_feed text.now }
 {
-    text.iter().filter(|b| **b == b'\n').count()
+    text.iter().filter(|b| **b == LINE_FEED).count()
 }
 
 // The line of the first byte that begins no character.

@@ -3,6 +3,8 @@ ghost use Rattle.std.specs.List.{prefix_len};
 ghost use Rattle.sec_text.specs.Quotes.{is_blank};
 ghost use Rattle.sec_text.specs.Margins.{in_margin, without_end};
 
+use crate::characters::{CARRIAGE_RETURN, SPACE, TAB};
+
 /// The bytes that are cut off at the ends of a text.
 #[derive(Clone, Copy, Debug, PartialEq, Eq)]
 pub enum Margin {
@@ -16,7 +18,7 @@ pub enum Margin {
 pub fn is_blank_byte(byte: u8) -> bool
     ensures { result ≡ is_blank byte }
 {
-    byte == b' ' || byte == b'\t'
+    byte == SPACE || byte == TAB
 }
 
 fn is_in_margin(margin: Margin, byte: u8) -> bool
@@ -24,7 +26,7 @@ fn is_in_margin(margin: Margin, byte: u8) -> bool
 {
     match margin {
         Margin::Blanks => is_blank_byte(byte),
-        Margin::BlanksAndReturns => is_blank_byte(byte) || byte == b'\r',
+        Margin::BlanksAndReturns => is_blank_byte(byte) || byte == CARRIAGE_RETURN,
     }
 }
 

@@ -2,10 +2,9 @@ ghost use Rattle.std.specs.Prelude.{◌≡◌, ◌≤◌, drop, length, IfOk, If
 ghost use Rattle.std.specs.Option.{option_map};
 ghost use Rattle.sec_text.specs.Quotes.{begins, quoted, quoted_byte};
 
+use crate::characters::BACKSLASH;
 use std::alloc::Global;
 use waf_plain::{Bytes, NoMemory};
-
-const BACKSLASH: u8 = b'\\';
 
 fn begins_with(bytes: &[u8], byte: u8) -> bool
     ensures { result ≡ begins byte bytes.now }

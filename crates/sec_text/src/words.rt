@@ -4,18 +4,16 @@ ghost use Rattle.std.specs.List.{prefix_len, list_any, AllByRecursion};
 ghost use Rattle.sec_text.specs.Written.{spread, ends_with_backslash};
 ghost use Rattle.std.specs.Prelude.{not, false, ◌≢◌, ℕ, List, MatchResult, ◌==◌, OnOk, Option, Result, ◌≤◌, length, IfOk, IfSome, Some, None, Ok, Err};
 ghost use Rattle.sec_text.specs.Quotes.{is_blank, quoted, quoted_byte, begins};
+ghost use Rattle.sec_text.specs.declared.characters.TheConstants.{QUOTE};
 ghost use Rattle.sec_text.specs.Words.{Gives, is_plain, is_apart, closed, plain, plain_end, word_here, next_word, words, AreWords};
 
+use crate::characters::{BACKSLASH, QUOTE};
 use crate::faults::WordFault;
 use crate::line::Line;
 use crate::margins::{Margin, is_blank_byte, trim_start};
 use crate::quotes::read_quoted;
 use std::alloc::Global;
 use waf_plain::{Bytes, Seq};
-
-const QUOTE: u8 = b'"';
-
-const BACKSLASH: u8 = b'\\';
 
 // How many bytes that are no blanks stand at the front.
 fn count_others(bytes: &[u8]) -> usize
@@ -62,7 +60,7 @@ fn read_plain(alloc: Global, bytes: &[u8]) -> Result<Option<(Bytes, &[u8])>, Wor
 }
 
 fn read_closed(alloc: Global, bytes: &[u8]) -> Result<Option<(Bytes, &[u8])>, WordFault>
-    ensures { Gives (λ read. option_map (λ x. (x.0, x.1.now)) read) result (closed (quoted 34 bytes.now)) }
+    ensures { Gives (λ read. option_map (λ x. (x.0, x.1.now)) read) result (closed (quoted QUOTE bytes.now)) }
 {
     match read_quoted(alloc, QUOTE, bytes) {
         Ok(None) => Err(WordFault::OpenQuote),
