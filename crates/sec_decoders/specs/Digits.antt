@@ -1,23 +1,28 @@
 -- Digits of three bases, and the numbers that they write.
 use Rattle.std.specs.Prelude.{ℕ, ◌+◌, ◌-◌, ◌*◌, List, [], ◌∷◌, Option, Some, None, Bool, nat_le, cond, ◌&&◌, is_some, unwrap_or, map}
 use Rattle.std.specs.List.{fold}
+use Rattle.sec_decoders.specs.declared.characters.TheConstants.{CAPITAL_A, CAPITAL_F, NINE, SEVEN, SMALL_A, SMALL_F, ZERO}
+use Rattle.sec_decoders.specs.declared.digits.TheConstants.{DECIMAL, HEXADECIMAL}
 
 abbrev pub within : ℕ → ℕ → ℕ → Bool
 within low high n = nat_le low n && nat_le n high
 
+abbrev pub is_decimal : ℕ → Bool
+is_decimal c = within ZERO NINE c
+
 -- the number of a hexadecimal digit: 0 to 9, a to f, A to F
 abbrev pub hex_digit : ℕ → Option ℕ
 hex_digit c =
-    cond (within 48 57 c) (Some (c - 48))
-    (cond (within 97 102 c) (Some (c - 87))
-    (cond (within 65 70 c) (Some (c - 55)) None))
+    cond (is_decimal c) (Some (c - ZERO))
+    (cond (within SMALL_A SMALL_F c) (Some (c - SMALL_A + DECIMAL))
+    (cond (within CAPITAL_A CAPITAL_F c) (Some (c - CAPITAL_A + DECIMAL)) None))
 
 -- digits behind a number that is read already
 abbrev pub more_digits : Option ℕ → List (Option ℕ) → Option ℕ
 more_digits sum [] = sum
 more_digits None (d ∷ ds) = None
 more_digits (Some sum) (None ∷ ds) = None
-more_digits (Some sum) (Some d ∷ ds) = more_digits (Some (sum * 16 + d)) ds
+more_digits (Some sum) (Some d ∷ ds) = more_digits (Some (sum * HEXADECIMAL + d)) ds
 
 -- the number of a text that is all hexadecimal digits
 abbrev pub hex_number : List ℕ → Option ℕ
@@ -26,13 +31,10 @@ hex_number digits = more_digits (Some 0) (map hex_digit digits)
 abbrev pub is_hex : ℕ → Bool
 is_hex c = is_some (hex_digit c)
 
-abbrev pub is_decimal : ℕ → Bool
-is_decimal c = within 48 57 c
-
 abbrev pub is_octal : ℕ → Bool
-is_octal c = within 48 55 c
+is_octal c = within ZERO SEVEN c
 
--- the number of a digit of any base up to 16
+-- the number of a digit of any of these bases
 abbrev pub digit_of : ℕ → ℕ
 digit_of c = unwrap_or (hex_digit c) 0
 

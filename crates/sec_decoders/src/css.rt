@@ -4,9 +4,13 @@ ghost use Rattle.std.specs.List.{take_while};
 ghost use Rattle.sec_decoders.specs.Digits.{is_hex, number_in};
 ghost use Rattle.sec_decoders.specs.Pieces.{pieces};
 ghost use Rattle.sec_decoders.specs.declared.pieces.TheConstants.{LIMIT};
-ghost use Rattle.sec_decoders.specs.Css.{css, css_number, css_digits, space};
+ghost use Rattle.sec_decoders.specs.Css.{css, css_number, css_digits, six_digits, space};
+ghost use Rattle.sec_decoders.specs.declared.lengths.TheConstants.{MAX_CSS_DIGITS};
+ghost use Rattle.sec_decoders.specs.declared.digits.TheConstants.{HEXADECIMAL};
 
+use crate::characters::{BACKSLASH, CARRIAGE_RETURN, LINE_FEED, SPACE, TAB};
 use crate::digits::{digit_of, is_hex};
+use crate::lengths::{MAX_CSS_DIGITS, PAIR};
 use crate::url::narrow;
 use crate::{Decoder, Piece, decode};
 use std::alloc::Global;
@@ -31,9 +35,9 @@ impl Decoder for Css {
             return Piece::byte(n, takes);
         }
         match front {
-            [b'\\', b'\n', ..] => Piece::nothing(2),
-            [b'\\', c, ..] => Piece::byte(*c, 2),
-            [b'\\'] => Piece::nothing(1),
+            [BACKSLASH, LINE_FEED, ..] => Piece::nothing(PAIR),
+            [BACKSLASH, c, ..] => Piece::byte(*c, PAIR),
+            [BACKSLASH] => Piece::nothing(1),
             _ => Piece::byte(front[0], 1),
         }
     }
@@ -45,7 +49,7 @@ fn number(front: &[u8]) -> Option<(u8, usize)>
     ensures there { IfSome result (λ n. (0 < n.1) × (n.1 ≤ length front.now)) }
 {
     match front {
-        [b'\\', ..] => digits_number(front.split_at(1).1),
+        [BACKSLASH, ..] => digits_number(front.split_at(1).1),
         _ => None,
     }
 }
@@ -62,28 +66,31 @@ fn digits_number(text: &[u8]) -> Option<(u8, usize)>
     Some((narrow(short_number(digits)), 1 + digits.len() + space(rest)))
 }
 
-/// The digits at the front, at most six, and what is behind them.
+/// The digits at the front, at most six, and what is after them.
 fn digits_of(text: &[u8]) -> (&[u8], &[u8])
-    ensures digits { result.0.now ≡ take_while is_hex (take 6 text.now) }
-    ensures rest { result.1.now ≡ drop (length (take_while is_hex (take 6 text.now))) text.now }
+    ensures digits { result.0.now ≡ six_digits text.now }
+    ensures rest { result.1.now ≡ drop (length (six_digits text.now)) text.now }
     ensures parts { length text.now ≡ length result.0.now + length result.1.now }
-    ensures few { length result.0.now ≤ 6 }
+    ensures few { length result.0.now ≤ MAX_CSS_DIGITS }
 {
     text.split_at(digits_len(text))
 }
 
 fn digits_len(text: &[u8]) -> usize
-    ensures count { result ≡ length (take_while is_hex (take 6 text.now)) }
+    ensures count { result ≡ length (six_digits text.now) }
     ensures within { result ≤ length text.now }
-    ensures few { result ≤ 6 }
+    ensures few { result ≤ MAX_CSS_DIGITS }
 {
-    text.iter().take(6).take_while(|c| is_hex(**c)).count()
+    text.iter()
+        .take(MAX_CSS_DIGITS)
+        .take_while(|c| is_hex(**c))
+        .count()
 }
 
 /// The number that at most six hexadecimal digits write.
 fn short_number(digits: &[u8]) -> u32
-    requires { length digits.now ≤ 6 }
-    ensures { result ≡ number_in 16 digits.now }
+    requires { length digits.now ≤ MAX_CSS_DIGITS }
+    ensures { result ≡ number_in HEXADECIMAL digits.now }
 {
     let mut sum = 0u32;
     for digit in digits {
@@ -98,7 +105,7 @@ fn space(text: &[u8]) -> usize
     ensures within { result ≤ length text.now }
 {
     match text {
-        [9..=13 | b' ', ..] => 1,
+        [TAB..=CARRIAGE_RETURN | SPACE, ..] => 1,
         _ => 0,
     }
 }

@@ -1,16 +1,26 @@
 ghost use Rattle.std.specs.Prelude.{◌≡◌, ◌<◌, ◌≤◌, ◌+◌, ◌*◌, ◌%◌, ◌∷◌, [], IfSome, length, drop, take};
 ghost use Rattle.std.specs.List.{take_while};
 ghost use Rattle.sec_decoders.specs.Digits.{hex_digit, hex_number, is_hex, is_octal, digit_of, number_in};
+ghost use Rattle.sec_decoders.specs.declared.digits.TheConstants.{HEXADECIMAL};
+
+use crate::characters::{CAPITAL_A, CAPITAL_F, NINE, SMALL_A, SMALL_F, ZERO};
+
+/// The base of octal numbers.
+pub const OCTAL: u8 = 8;
+/// The base of decimal numbers.
+pub const DECIMAL: u8 = 10;
+/// The base of hexadecimal numbers.
+pub const HEXADECIMAL: u8 = 16;
 
 /// The number of a hexadecimal digit, of either case.
 fn hex_digit(byte: u8) -> Option<u8>
     ensures digit { result ≡ hex_digit byte }
-    ensures small { IfSome result (λ n. n < 16) }
+    ensures small { IfSome result (λ n. n < HEXADECIMAL) }
 {
     match byte {
-        b'0'..=b'9' => Some(byte - b'0'),
-        b'a'..=b'f' => Some(byte - b'a' + 10),
-        b'A'..=b'F' => Some(byte - b'A' + 10),
+        ZERO..=NINE => Some(byte - ZERO),
+        SMALL_A..=SMALL_F => Some(byte - SMALL_A + DECIMAL),
+        CAPITAL_A..=CAPITAL_F => Some(byte - CAPITAL_A + DECIMAL),
         _ => None,
     }
 }
@@ -21,7 +31,7 @@ pub(crate) fn hex_pair(a: u8, b: u8) -> Option<u8>
 {
     let high = hex_digit(a)?;
     let low = hex_digit(b)?;
-    Some(high * 16 + low)
+    Some(high * HEXADECIMAL + low)
 }
 
 /// The number of four hexadecimal digits.
@@ -45,7 +55,7 @@ pub(crate) fn is_hex(byte: u8) -> bool
 /// The number of a digit, 0 for another byte.
 pub(crate) fn digit_of(byte: u8) -> u8
     ensures digit { result ≡ digit_of byte }
-    ensures small { result < 16 }
+    ensures small { result < HEXADECIMAL }
 {
     hex_digit(byte).unwrap_or(0)
 }

@@ -6,9 +6,14 @@ ghost use Rattle.std.specs.Str.{bytes_eq};
 ghost use Rattle.sec_decoders.specs.Digits.{is_hex, is_decimal};
 ghost use Rattle.sec_decoders.specs.Pieces.{pieces};
 ghost use Rattle.sec_decoders.specs.declared.pieces.TheConstants.{LIMIT};
-ghost use Rattle.sec_decoders.specs.Entities.{semicolon, hex_entity, decimal_entity, numbered, named, name_entity, entities};
+ghost use Rattle.sec_decoders.specs.Entities.{semicolon, hex_entity, hex_numbered, decimal_entity, decimal_numbered, named, name_entity, entities};
+ghost use Rattle.sec_decoders.specs.declared.lengths.TheConstants.{DECIMAL_REFERENCE, HEX_REFERENCE};
 
-use crate::digits::{is_hex, low_byte};
+use crate::characters::{
+    AMPERSAND, CAPITAL_X, GREATER_THAN, HASH, LESS_THAN, NO_BREAK_SPACE, QUOTE, SEMICOLON, SMALL_X,
+};
+use crate::digits::{DECIMAL, HEXADECIMAL, is_hex, low_byte};
+use crate::lengths::{DECIMAL_REFERENCE, HEX_REFERENCE};
 use crate::{Decoder, Piece, decode};
 use std::alloc::Global;
 use waf_plain::{Bytes, NoMemory};
@@ -47,21 +52,24 @@ fn hex_entity(front: &[u8]) -> Option<(u8, usize)>
     ensures there { IfSome result (λ p. (0 < p.1) × (p.1 ≤ length front.now)) }
 {
     match front {
-        [b'&', b'#', b'x' | b'X', ..] => hex_numbered(front.split_at(3).1),
+        [AMPERSAND, HASH, SMALL_X | CAPITAL_X, ..] => hex_numbered(front.split_at(HEX_REFERENCE).1),
         _ => None,
     }
 }
 
 fn hex_numbered(text: &[u8]) -> Option<(u8, usize)>
-    requires { length text.now + 3 < 2 ^ 63 }
-    ensures row { numbered 16 3 (take_while is_hex text.now) text.now ≡ option_map (λ p. (p.0 ∷ [], p.1)) result }
-    ensures there { IfSome result (λ p. (0 < p.1) × (p.1 ≤ length text.now + 3)) }
+    requires { length text.now + HEX_REFERENCE < 2 ^ 63 }
+    ensures row { hex_numbered text.now ≡ option_map (λ p. (p.0 ∷ [], p.1)) result }
+    ensures there { IfSome result (λ p. (0 < p.1) × (p.1 ≤ length text.now + HEX_REFERENCE)) }
 {
     let (digits, rest) = text.split_at(hex_len(text));
     if digits.is_empty() {
         return None;
     }
-    Some((low_byte(16, digits), 3 + digits.len() + semicolon(rest)))
+    Some((
+        low_byte(HEXADECIMAL, digits),
+        HEX_REFERENCE + digits.len() + semicolon(rest),
+    ))
 }
 
 fn hex_len(text: &[u8]) -> usize
@@ -77,21 +85,24 @@ fn decimal_entity(front: &[u8]) -> Option<(u8, usize)>
     ensures there { IfSome result (λ p. (0 < p.1) × (p.1 ≤ length front.now)) }
 {
     match front {
-        [b'&', b'#', ..] => decimal_numbered(front.split_at(2).1),
+        [AMPERSAND, HASH, ..] => decimal_numbered(front.split_at(DECIMAL_REFERENCE).1),
         _ => None,
     }
 }
 
 fn decimal_numbered(text: &[u8]) -> Option<(u8, usize)>
-    requires { length text.now + 2 < 2 ^ 63 }
-    ensures row { numbered 10 2 (take_while is_decimal text.now) text.now ≡ option_map (λ p. (p.0 ∷ [], p.1)) result }
-    ensures there { IfSome result (λ p. (0 < p.1) × (p.1 ≤ length text.now + 2)) }
+    requires { length text.now + DECIMAL_REFERENCE < 2 ^ 63 }
+    ensures row { decimal_numbered text.now ≡ option_map (λ p. (p.0 ∷ [], p.1)) result }
+    ensures there { IfSome result (λ p. (0 < p.1) × (p.1 ≤ length text.now + DECIMAL_REFERENCE)) }
 {
     let (digits, rest) = text.split_at(decimal_len(text));
     if digits.is_empty() {
         return None;
     }
-    Some((low_byte(10, digits), 2 + digits.len() + semicolon(rest)))
+    Some((
+        low_byte(DECIMAL, digits),
+        DECIMAL_REFERENCE + digits.len() + semicolon(rest),
+    ))
 }
 
 fn decimal_len(text: &[u8]) -> usize
@@ -112,19 +123,19 @@ fn name_entity(front: &[u8]) -> Option<(u8, usize)>
     ensures row { name_entity front.now ≡ option_map (λ p. (p.0 ∷ [], p.1)) result }
     ensures there { IfSome result (λ p. (0 < p.1) × (p.1 ≤ length front.now)) }
 {
-    if let Some(row) = named(front, b"&quot", b'"') {
+    if let Some(row) = named(front, b"&quot", QUOTE) {
         return Some(row);
     }
-    if let Some(row) = named(front, b"&amp", b'&') {
+    if let Some(row) = named(front, b"&amp", AMPERSAND) {
         return Some(row);
     }
-    if let Some(row) = named(front, b"&lt", b'<') {
+    if let Some(row) = named(front, b"&lt", LESS_THAN) {
         return Some(row);
     }
-    if let Some(row) = named(front, b"&gt", b'>') {
+    if let Some(row) = named(front, b"&gt", GREATER_THAN) {
         return Some(row);
     }
-    named(front, b"&nbsp", 160)
+    named(front, b"&nbsp", NO_BREAK_SPACE)
 }
 
 /// A word at the front, without regard to case.
@@ -156,7 +167,7 @@ fn semicolon(text: &[u8]) -> usize
     ensures within { result ≤ length text.now }
 {
     match text {
-        [b';', ..] => 1,
+        [SEMICOLON, ..] => 1,
         _ => 0,
     }
 }

@@ -3,9 +3,12 @@ ghost use Rattle.std.specs.Option.{option_map};
 ghost use Rattle.sec_decoders.specs.Pieces.{pieces};
 ghost use Rattle.sec_decoders.specs.declared.pieces.TheConstants.{LIMIT};
 ghost use Rattle.sec_decoders.specs.EscapeSequences.{escaped_x, escaped_octal, escape_sequences};
+ghost use Rattle.sec_decoders.specs.declared.lengths.TheConstants.{X_ESCAPE};
 
+use crate::characters::{BACKSLASH, CAPITAL_X, SEVEN, SMALL_X, ZERO};
 use crate::digits::hex_pair;
 use crate::javascript::ansi_byte;
+use crate::lengths::{PAIR, X_ESCAPE};
 use crate::{Decoder, Piece, decode};
 use std::alloc::Global;
 use waf_plain::{Bytes, NoMemory};
@@ -26,13 +29,13 @@ impl Decoder for EscapeSequences {
 
     fn piece(&self, front: &[u8]) -> Piece {
         if let Some(n) = pair(front) {
-            return Piece::byte(n, 4);
+            return Piece::byte(n, X_ESCAPE);
         }
         if let Some((n, takes)) = octal(front) {
             return Piece::byte(n, takes);
         }
         match front {
-            [b'\\', c, ..] => Piece::byte(ansi_byte(*c), 2),
+            [BACKSLASH, c, ..] => Piece::byte(ansi_byte(*c), PAIR),
             _ => Piece::byte(front[0], 1),
         }
     }
@@ -40,11 +43,11 @@ impl Decoder for EscapeSequences {
 
 /// The number of `\x` or `\X` and two digits.
 fn pair(front: &[u8]) -> Option<u8>
-    ensures row { escaped_x front.now ≡ option_map (λ n. (n ∷ [], 4)) result }
-    ensures there { OnSome result (4 ≤ length front.now) }
+    ensures row { escaped_x front.now ≡ option_map (λ n. (n ∷ [], X_ESCAPE)) result }
+    ensures there { OnSome result (X_ESCAPE ≤ length front.now) }
 {
     match front {
-        [b'\\', b'x' | b'X', a, b, ..] => hex_pair(*a, *b),
+        [BACKSLASH, SMALL_X | CAPITAL_X, a, b, ..] => hex_pair(*a, *b),
         _ => None,
     }
 }
@@ -55,12 +58,21 @@ fn octal(front: &[u8]) -> Option<(u8, usize)>
     ensures there { IfSome result (λ n. (0 < n.1) × (n.1 ≤ length front.now)) }
 {
     match front {
-        [b'\\', a @ b'0'..=b'7', b @ b'0'..=b'7', c @ b'0'..=b'7', ..] => {
+        [
+            BACKSLASH,
+            a @ ZERO..=SEVEN,
+            b @ ZERO..=SEVEN,
+            c @ ZERO..=SEVEN,
+            ..
+        ] => {
             // The first digit above 3 loses its highest bit.
-            Some(((a - b'0') % 4 * 64 + (b - b'0') * 8 + (c - b'0'), 4))
+            Some(((a - ZERO) % 4 * 64 + (b - ZERO) * 8 + (c - ZERO), 4))
         }
-        [b'\\', a @ b'0'..=b'7', b @ b'0'..=b'7', ..] => Some(((a - b'0') * 8 + (b - b'0'), 3)),
-        [b'\\', a @ b'0'..=b'7', ..] => Some((a - b'0', 2)),
+        [BACKSLASH, a @ ZERO..=SEVEN, b @ ZERO..=SEVEN, ..] => Some((
+            (a - ZERO) * 8 + (b - ZERO),
+            3,
+        )),
+        [BACKSLASH, a @ ZERO..=SEVEN, ..] => Some((a - ZERO, 2)),
         _ => None,
     }
 }

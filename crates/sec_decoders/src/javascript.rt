@@ -4,8 +4,14 @@ ghost use Rattle.sec_decoders.specs.Pieces.{pieces};
 ghost use Rattle.sec_decoders.specs.declared.pieces.TheConstants.{LIMIT};
 ghost use Rattle.sec_decoders.specs.UrlUni.{narrowed};
 ghost use Rattle.sec_decoders.specs.JavaScript.{backslash_u, backslash_x, backslash_octal, ansi, js};
+ghost use Rattle.sec_decoders.specs.declared.lengths.TheConstants.{FOUR_DIGIT_ESCAPE, X_ESCAPE};
 
+use crate::characters::{
+    BACKSLASH, BACKSPACE, BELL, CARRIAGE_RETURN, FORM_FEED, LINE_FEED, SEVEN, SMALL_A, SMALL_B,
+    SMALL_F, SMALL_N, SMALL_R, SMALL_T, SMALL_U, SMALL_V, SMALL_X, TAB, THREE, VERTICAL_TAB, ZERO,
+};
 use crate::digits::{hex_four, hex_pair};
+use crate::lengths::{FOUR_DIGIT_ESCAPE, PAIR, X_ESCAPE};
 use crate::url::narrow;
 use crate::{Decoder, Piece, decode};
 use std::alloc::Global;
@@ -27,16 +33,16 @@ impl Decoder for JavaScript {
 
     fn piece(&self, front: &[u8]) -> Piece {
         if let Some(n) = wide(front) {
-            return Piece::byte(narrow(u32::from(n)), 6);
+            return Piece::byte(narrow(u32::from(n)), FOUR_DIGIT_ESCAPE);
         }
         if let Some(n) = pair(front) {
-            return Piece::byte(n, 4);
+            return Piece::byte(n, X_ESCAPE);
         }
         if let Some((n, takes)) = octal(front) {
             return Piece::byte(n, takes);
         }
         match front {
-            [b'\\', c, ..] => Piece::byte(ansi_byte(*c), 2),
+            [BACKSLASH, c, ..] => Piece::byte(ansi_byte(*c), PAIR),
             _ => Piece::byte(front[0], 1),
         }
     }
@@ -44,22 +50,22 @@ impl Decoder for JavaScript {
 
 /// The number of `\u` and four digits.
 fn wide(front: &[u8]) -> Option<u16>
-    ensures row { backslash_u front.now ≡ option_map (λ n. (narrowed n ∷ [], 6)) result }
-    ensures there { OnSome result (6 ≤ length front.now) }
+    ensures row { backslash_u front.now ≡ option_map (λ n. (narrowed n ∷ [], FOUR_DIGIT_ESCAPE)) result }
+    ensures there { OnSome result (FOUR_DIGIT_ESCAPE ≤ length front.now) }
 {
     match front {
-        [b'\\', b'u', a, b, c, d, ..] => hex_four(*a, *b, *c, *d),
+        [BACKSLASH, SMALL_U, a, b, c, d, ..] => hex_four(*a, *b, *c, *d),
         _ => None,
     }
 }
 
 /// The number of `\x` and two digits.
 fn pair(front: &[u8]) -> Option<u8>
-    ensures row { backslash_x front.now ≡ option_map (λ n. (n ∷ [], 4)) result }
-    ensures there { OnSome result (4 ≤ length front.now) }
+    ensures row { backslash_x front.now ≡ option_map (λ n. (n ∷ [], X_ESCAPE)) result }
+    ensures there { OnSome result (X_ESCAPE ≤ length front.now) }
 {
     match front {
-        [b'\\', b'x', a, b, ..] => hex_pair(*a, *b),
+        [BACKSLASH, SMALL_X, a, b, ..] => hex_pair(*a, *b),
         _ => None,
     }
 }
@@ -70,27 +76,34 @@ fn octal(front: &[u8]) -> Option<(u8, usize)>
     ensures there { IfSome result (λ n. (0 < n.1) × (n.1 ≤ length front.now)) }
 {
     match front {
-        [b'\\', a @ b'0'..=b'3', b @ b'0'..=b'7', c @ b'0'..=b'7', ..] => {
-            Some(((a - b'0') * 64 + (b - b'0') * 8 + (c - b'0'), 4))
-        }
-        [b'\\', a @ b'0'..=b'7', b @ b'0'..=b'7', ..] => Some(((a - b'0') * 8 + (b - b'0'), 3)),
-        [b'\\', a @ b'0'..=b'7', ..] => Some((a - b'0', 2)),
+        [
+            BACKSLASH,
+            a @ ZERO..=THREE,
+            b @ ZERO..=SEVEN,
+            c @ ZERO..=SEVEN,
+            ..
+        ] => { Some(((a - ZERO) * 64 + (b - ZERO) * 8 + (c - ZERO), 4)) }
+        [BACKSLASH, a @ ZERO..=SEVEN, b @ ZERO..=SEVEN, ..] => Some((
+            (a - ZERO) * 8 + (b - ZERO),
+            3,
+        )),
+        [BACKSLASH, a @ ZERO..=SEVEN, ..] => Some((a - ZERO, 2)),
         _ => None,
     }
 }
 
-/// The byte that a letter behind `\` stands for in ANSI C, and another byte itself.
+/// The byte that a letter after `\` stands for in ANSI C, and another byte itself.
 pub(crate) fn ansi_byte(c: u8) -> u8
     ensures { result ≡ ansi c }
 {
     match c {
-        b'a' => 7,
-        b'b' => 8,
-        b'f' => 12,
-        b'n' => b'\n',
-        b'r' => b'\r',
-        b't' => b'\t',
-        b'v' => 11,
+        SMALL_A => BELL,
+        SMALL_B => BACKSPACE,
+        SMALL_F => FORM_FEED,
+        SMALL_N => LINE_FEED,
+        SMALL_R => CARRIAGE_RETURN,
+        SMALL_T => TAB,
+        SMALL_V => VERTICAL_TAB,
         _ => c,
     }
 }

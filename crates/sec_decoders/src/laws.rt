@@ -8,6 +8,7 @@ ghost use Rattle.sec_decoders.specs.Css.{css};
 ghost use Rattle.sec_decoders.specs.EscapeSequences.{escape_sequences};
 ghost use Rattle.sec_decoders.specs.Unicode.{unicode};
 ghost use Rattle.sec_decoders.specs.Escaped.{percent_escape, entity_escape, x_escape, css_escape};
+ghost use Rattle.sec_decoders.specs.declared.unicode.TheConstants.{MIN_LEAD_OF_TWO};
 
 /// What holds of every value: bytes that are all escaped are read back, and what has no byte that
 /// leads a sequence of UTF-8 is shown as it is. It does nothing.
@@ -22,5 +23,5 @@ pub fn escapes_are_read()
         → pieces css 0 (flat_map css_escape value) ≡ value }
     ensures escape { (value : List ℕ) → All (λ c. c < 256) value
         → pieces escape_sequences 0 (flat_map x_escape value) ≡ value }
-    ensures plain { (value : List ℕ) → All (λ c. c < 192) value → pieces unicode 0 value ≡ value }
+    ensures plain { (value : List ℕ) → All (λ c. c < MIN_LEAD_OF_TWO) value → pieces unicode 0 value ≡ value }
 {}

@@ -5,12 +5,14 @@
 //! `specs/Pieces.antt`, over the row of each decoder, as `url_uni` in `specs/UrlUni.antt`.
 #![tactic(auto)]
 
+pub mod characters;
 mod css;
 mod digits;
 mod entity;
 mod escape;
 mod javascript;
 mod laws;
+mod lengths;
 mod pieces;
 mod unicode;
 mod url;

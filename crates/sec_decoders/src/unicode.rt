@@ -1,13 +1,33 @@
-ghost use Rattle.std.specs.Prelude.{◌≡◌, ◌<◌, ◌≤◌, ◌%◌, ◌++◌, length, take, IfOk, IfSome};
+ghost use Rattle.std.specs.Prelude.{◌≡◌, ◌<◌, ◌≤◌, ◌%◌, ◌^◌, ◌++◌, length, take, IfOk, IfSome};
 ghost use Rattle.arrayvec.specs.ArrayVec.{array_vec_len};
 ghost use Rattle.sec_decoders.specs.Pieces.{pieces};
 ghost use Rattle.sec_decoders.specs.declared.pieces.TheConstants.{LIMIT};
 ghost use Rattle.sec_decoders.specs.Unicode.{letter, four_digits, shown, two, three, four, unicode};
+ghost use Rattle.sec_decoders.specs.declared.digits.TheConstants.{HEXADECIMAL};
 
+use crate::characters::{PERCENT, SMALL_A, SMALL_U, ZERO};
+use crate::digits::DECIMAL;
 use crate::{Decoder, Piece, decode};
 use arrayvec::ArrayVec;
 use std::alloc::Global;
 use waf_plain::{Bytes, NoMemory};
+
+/// The first byte of those that follow the first of a sequence: `10xxxxxx`.
+pub const MIN_TAIL: u8 = 0x80;
+/// The last of these.
+pub const MAX_TAIL: u8 = 0xbf;
+/// The first byte that two bytes begin with: `110xxxxx`.
+pub const MIN_LEAD_OF_TWO: u8 = 0xc0;
+/// The last of these.
+pub const MAX_LEAD_OF_TWO: u8 = 0xdf;
+/// The first byte that three bytes begin with: `1110xxxx`.
+pub const MIN_LEAD_OF_THREE: u8 = 0xe0;
+/// The last of these.
+pub const MAX_LEAD_OF_THREE: u8 = 0xef;
+/// The first byte that four bytes begin with: `11110xxx`.
+pub const MIN_LEAD_OF_FOUR: u8 = 0xf0;
+/// The last of these.
+pub const MAX_LEAD_OF_FOUR: u8 = 0xf7;
 
 /// `utf8toUnicode` of the ModSecurity reference manual: each sequence of two to four bytes of UTF-8
 /// (RFC 3629, section 3) is shown as `%u` and its number, overlong ones and surrogates too. All
@@ -43,11 +63,18 @@ impl Decoder for Unicode {
 
 fn two(front: &[u8]) -> Option<(u32, usize)>
     ensures row { result ≡ two front.now }
-    ensures there { IfSome result (λ p. (p.0 < 2097152) × (0 < p.1) × (p.1 ≤ length front.now)) }
+    ensures there { IfSome result (λ p. (p.0 < 2 ^ 21) × (0 < p.1) × (p.1 ≤ length front.now)) }
 {
     match front {
-        [a @ 0xc0..=0xdf, b @ 0x80..=0xbf, ..] => {
-            Some((u32::from(a - 0xc0) * 64 + u32::from(b - 0x80), 2))
+        [
+            a @ MIN_LEAD_OF_TWO..=MAX_LEAD_OF_TWO,
+            b @ MIN_TAIL..=MAX_TAIL,
+            ..
+        ] => {
+            Some((
+                u32::from(a - MIN_LEAD_OF_TWO) * 64 + u32::from(b - MIN_TAIL),
+                2,
+            ))
         }
         _ => None,
     }
@@ -55,11 +82,18 @@ fn two(front: &[u8]) -> Option<(u32, usize)>
 
 fn three(front: &[u8]) -> Option<(u32, usize)>
     ensures row { result ≡ three front.now }
-    ensures there { IfSome result (λ p. (p.0 < 2097152) × (0 < p.1) × (p.1 ≤ length front.now)) }
+    ensures there { IfSome result (λ p. (p.0 < 2 ^ 21) × (0 < p.1) × (p.1 ≤ length front.now)) }
 {
     match front {
-        [a @ 0xe0..=0xef, b @ 0x80..=0xbf, c @ 0x80..=0xbf, ..] => Some((
-            u32::from(a - 0xe0) * 4096 + u32::from(b - 0x80) * 64 + u32::from(c - 0x80),
+        [
+            a @ MIN_LEAD_OF_THREE..=MAX_LEAD_OF_THREE,
+            b @ MIN_TAIL..=MAX_TAIL,
+            c @ MIN_TAIL..=MAX_TAIL,
+            ..
+        ] => Some((
+            u32::from(a - MIN_LEAD_OF_THREE) * 4096
+                + u32::from(b - MIN_TAIL) * 64
+                + u32::from(c - MIN_TAIL),
             3,
         )),
         _ => None,
@@ -68,20 +102,20 @@ fn three(front: &[u8]) -> Option<(u32, usize)>
 
 fn four(front: &[u8]) -> Option<(u32, usize)>
     ensures row { result ≡ four front.now }
-    ensures there { IfSome result (λ p. (p.0 < 2097152) × (0 < p.1) × (p.1 ≤ length front.now)) }
+    ensures there { IfSome result (λ p. (p.0 < 2 ^ 21) × (0 < p.1) × (p.1 ≤ length front.now)) }
 {
     match front {
         [
-            a @ 0xf0..=0xf7,
-            b @ 0x80..=0xbf,
-            c @ 0x80..=0xbf,
-            d @ 0x80..=0xbf,
+            a @ MIN_LEAD_OF_FOUR..=MAX_LEAD_OF_FOUR,
+            b @ MIN_TAIL..=MAX_TAIL,
+            c @ MIN_TAIL..=MAX_TAIL,
+            d @ MIN_TAIL..=MAX_TAIL,
             ..
         ] => Some((
-            u32::from(a - 0xf0) * 262144
-                + u32::from(b - 0x80) * 4096
-                + u32::from(c - 0x80) * 64
-                + u32::from(d - 0x80),
+            u32::from(a - MIN_LEAD_OF_FOUR) * 262144
+                + u32::from(b - MIN_TAIL) * 4096
+                + u32::from(c - MIN_TAIL) * 64
+                + u32::from(d - MIN_TAIL),
             4,
         )),
         _ => None,
@@ -93,8 +127,8 @@ fn shown(n: u32) -> ArrayVec<u8, 8>
     ensures { result.items ≡ shown n }
 {
     let mut out = ArrayVec::new();
-    out.push(b'%');
-    out.push(b'u');
+    out.push(PERCENT);
+    out.push(SMALL_U);
     if n < 0x10000 {
         push_four(&mut out, n);
         return out;
@@ -121,12 +155,12 @@ fn push_four(out: &mut ArrayVec<u8, 8>, n: u32)
 }
 
 fn letter(n: u32) -> u8
-    ensures { result ≡ letter (n % 16) }
+    ensures { result ≡ letter (n % HEXADECIMAL) }
 {
     let digit = (n % 16) as u8;
-    if digit < 10 {
-        b'0' + digit
+    if digit < DECIMAL {
+        ZERO + digit
     } else {
-        b'a' + (digit - 10)
+        SMALL_A + (digit - DECIMAL)
     }
 }

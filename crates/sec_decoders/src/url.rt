@@ -3,11 +3,21 @@ ghost use Rattle.std.specs.Option.{option_map};
 ghost use Rattle.sec_decoders.specs.Pieces.{pieces};
 ghost use Rattle.sec_decoders.specs.declared.pieces.TheConstants.{LIMIT};
 ghost use Rattle.sec_decoders.specs.UrlUni.{narrowed, percent_u, percent, plus, url_uni};
+ghost use Rattle.sec_decoders.specs.declared.lengths.TheConstants.{FOUR_DIGIT_ESCAPE, PERCENT_ESCAPE};
 
+use crate::characters::{CAPITAL_U, PERCENT, PLUS, SMALL_U, SPACE};
 use crate::digits::{hex_four, hex_pair};
+use crate::lengths::{FOUR_DIGIT_ESCAPE, PERCENT_ESCAPE};
 use crate::{Decoder, Piece, decode};
 use std::alloc::Global;
 use waf_plain::{Bytes, NoMemory};
+
+/// The full-width form of `!`, the first.
+pub const FIRST_WIDE: u32 = 0xff01;
+/// The full-width form of `~`, the last.
+pub const LAST_WIDE: u32 = 0xff5e;
+/// How far a full-width form stands from its letter.
+pub const WIDE_OFFSET: u32 = 0xfee0;
 
 /// `urlDecodeUni` of the ModSecurity reference manual: percent-encoding, `+` for a space, and the
 /// `%uHHHH` of IIS, of which a full-width letter gives its narrow form. Other `%` stay.
@@ -25,34 +35,34 @@ impl Decoder for UrlUni {
 
     fn piece(&self, front: &[u8]) -> Piece {
         if let Some(n) = wide(front) {
-            return Piece::byte(narrow(u32::from(n)), 6);
+            return Piece::byte(narrow(u32::from(n)), FOUR_DIGIT_ESCAPE);
         }
         if let Some(n) = pair(front) {
-            return Piece::byte(n, 3);
+            return Piece::byte(n, PERCENT_ESCAPE);
         }
         let byte = front[0];
-        Piece::byte(if byte == b'+' { b' ' } else { byte }, 1)
+        Piece::byte(if byte == PLUS { SPACE } else { byte }, 1)
     }
 }
 
 /// The number of `%u` and four digits.
 fn wide(front: &[u8]) -> Option<u16>
-    ensures row { percent_u front.now ≡ option_map (λ n. (narrowed n ∷ [], 6)) result }
-    ensures there { OnSome result (6 ≤ length front.now) }
+    ensures row { percent_u front.now ≡ option_map (λ n. (narrowed n ∷ [], FOUR_DIGIT_ESCAPE)) result }
+    ensures there { OnSome result (FOUR_DIGIT_ESCAPE ≤ length front.now) }
 {
     match front {
-        [b'%', b'u' | b'U', a, b, c, d, ..] => hex_four(*a, *b, *c, *d),
+        [PERCENT, SMALL_U | CAPITAL_U, a, b, c, d, ..] => hex_four(*a, *b, *c, *d),
         _ => None,
     }
 }
 
 /// The number of `%` and two digits.
 fn pair(front: &[u8]) -> Option<u8>
-    ensures row { percent front.now ≡ option_map (λ n. (n ∷ [], 3)) result }
-    ensures there { OnSome result (3 ≤ length front.now) }
+    ensures row { percent front.now ≡ option_map (λ n. (n ∷ [], PERCENT_ESCAPE)) result }
+    ensures there { OnSome result (PERCENT_ESCAPE ≤ length front.now) }
 {
     match front {
-        [b'%', a, b, ..] => hex_pair(*a, *b),
+        [PERCENT, a, b, ..] => hex_pair(*a, *b),
         _ => None,
     }
 }
@@ -61,8 +71,8 @@ fn pair(front: &[u8]) -> Option<u8>
 pub(crate) fn narrow(n: u32) -> u8
     ensures { result ≡ narrowed n }
 {
-    if (0xff01..=0xff5e).contains(&n) {
-        (n - 0xfee0) as u8
+    if (FIRST_WIDE..=LAST_WIDE).contains(&n) {
+        (n - WIDE_OFFSET) as u8
     } else {
         (n % 256) as u8
     }

@@ -1,6 +1,7 @@
 -- Percent-encoding that is cut short.
 use Rattle.std.specs.Prelude.{ℕ, Bool, false, not, ◌&&◌, ◌||◌, ◌==◌, List, [], ◌∷◌}
 use Rattle.std.specs.Char.{is_ascii_hexdigit}
+use Rattle.sec_ops.specs.declared.characters.TheConstants.{PERCENT}
 
 -- two hexadecimal digits at the front
 abbrev pub two_digits : List ℕ → Bool
@@ -10,4 +11,4 @@ two_digits other = false
 -- some `%` is not followed by two of them
 unfoldable pub has_bad_escape : List ℕ → Bool
 has_bad_escape [] = false
-has_bad_escape (c ∷ rest) = (c == 37 && not (two_digits rest)) || has_bad_escape rest
+has_bad_escape (c ∷ rest) = (c == PERCENT && not (two_digits rest)) || has_bad_escape rest

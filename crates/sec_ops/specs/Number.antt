@@ -1,20 +1,23 @@
 -- The number of a text.
 use Rattle.std.specs.Prelude.{ℕ, ◌+◌, ◌-◌, ◌*◌, ◌^◌, Bool, nat_le, cond, ◌&&◌, ◌||◌, ◌==◌, List, [], ◌∷◌, min, ℤ, pos, neg_ℤ}
 use Rattle.std.specs.List.{take_while, fold}
+use Rattle.std.specs.Char.{is_ascii_digit}
+use Rattle.sec_ops.specs.declared.characters.TheConstants.{CARRIAGE_RETURN, MINUS, PLUS, SPACE, TAB, ZERO}
+use Rattle.sec_ops.specs.declared.numbers.TheConstants.{DECIMAL}
 
 abbrev pub is_whitespace : ℕ → Bool
-is_whitespace c = (nat_le 9 c && nat_le c 13) || c == 32
+is_whitespace c = (nat_le TAB c && nat_le c CARRIAGE_RETURN) || c == SPACE
 
 abbrev pub is_digit : ℕ → Bool
-is_digit c = nat_le 48 c && nat_le c 57
+is_digit c = is_ascii_digit c
 
--- the text behind the whitespace at its front
+-- the text after the whitespace at its front
 unfoldable pub trimmed : List ℕ → List ℕ
 trimmed [] = []
 trimmed (c ∷ rest) = cond (is_whitespace c) (trimmed rest) (c ∷ rest)
 
 abbrev pub next_digit : ℕ → ℕ → ℕ
-next_digit sum c = sum * 10 + (c - 48)
+next_digit sum c = sum * DECIMAL + (c - ZERO)
 
 -- the number of the digits at the front, 0 where there is none
 abbrev pub digits_number : List ℕ → ℕ
@@ -31,8 +34,8 @@ negative n = neg_ℤ (pos (min n (2 ^ 63)))
 abbrev pub signed : List ℕ → ℤ
 signed [] = pos 0
 signed (c ∷ rest) =
-    cond (c == 45) (negative (digits_number rest))
-    (cond (c == 43) (positive (digits_number rest)) (positive (digits_number (c ∷ rest))))
+    cond (c == MINUS) (negative (digits_number rest))
+    (cond (c == PLUS) (positive (digits_number rest)) (positive (digits_number (c ∷ rest))))
 
 abbrev pub number : List ℕ → ℤ
 number text = signed (trimmed text)

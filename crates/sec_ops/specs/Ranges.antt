@@ -3,12 +3,13 @@ use Rattle.std.specs.Prelude.{ℕ, Bool, true, false, not, cond, ◌&&◌, ◌==
 use Rattle.std.specs.List.{take_while, list_all, list_any}
 use Rattle.std.specs.Option.{option_map}
 use Rattle.sec_ops.specs.Number.{is_digit, digits_number}
+use Rattle.sec_ops.specs.declared.characters.TheConstants.{MINUS, ZERO}
 
 -- at least one byte, and no zero before another one
 abbrev pub has_plain_front : List ℕ → Bool
 has_plain_front [] = false
 has_plain_front (c ∷ []) = true
-has_plain_front (c ∷ d ∷ rest) = not (c == 48)
+has_plain_front (c ∷ d ∷ rest) = not (c == ZERO)
 
 -- digits, at least one, without a leading zero
 abbrev pub is_plain : List ℕ → Bool
@@ -29,7 +30,7 @@ pair_of None high = None
 -- a number alone, or two joined by `-`, the first not greater
 abbrev pub range_from : Option ℕ → List ℕ → Option (ℕ × ℕ)
 range_from low [] = option_map (λ n. (n, n)) low
-range_from low (c ∷ rest) = cond (c == 45) (pair_of low (byte_of rest)) None
+range_from low (c ∷ rest) = cond (c == MINUS) (pair_of low (byte_of rest)) None
 
 unfoldable pub range_of : List ℕ → Option (ℕ × ℕ)
 range_of word = range_from (byte_of (take_while is_digit word)) (drop (length (take_while is_digit word)) word)

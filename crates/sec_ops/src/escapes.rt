@@ -1,6 +1,9 @@
 ghost use Rattle.std.specs.Prelude.{◌≡◌, ◌==◌, ◌&&◌, not};
 ghost use Rattle.std.specs.Str.{is_utf8};
+ghost use Rattle.sec_ops.specs.declared.characters.TheConstants.{PERCENT};
 ghost use Rattle.sec_ops.specs.Escapes.{has_bad_escape, two_digits};
+
+use crate::characters::PERCENT;
 
 /// Whether some `%` is not followed by two hexadecimal digits.
 pub(crate) fn has_bad_escape(value: &[u8]) -> bool
@@ -17,9 +20,9 @@ pub(crate) fn has_bad_escape(value: &[u8]) -> bool
 }
 
 fn is_bad(first: u8, behind: &[u8]) -> bool
-    ensures { result ≡ (first == 37 && not (two_digits behind.now)) }
+    ensures { result ≡ (first == PERCENT && not (two_digits behind.now)) }
 {
-    first == b'%' && !two_digits(behind)
+    first == PERCENT && !two_digits(behind)
 }
 
 fn two_digits(text: &[u8]) -> bool

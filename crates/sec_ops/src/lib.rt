@@ -5,6 +5,7 @@
 #![tactic(auto)]
 
 mod built;
+mod characters;
 mod escapes;
 mod laws;
 mod numbers;

@@ -1,8 +1,13 @@
 ghost use Rattle.std.specs.Prelude.{◌≡◌, ◌≤◌, ◌+◌, ◌*◌, ◌^◌, min, pos, neg_ℤ};
 ghost use Rattle.std.specs.Ordering.{int_cmp};
+ghost use Rattle.sec_ops.specs.declared.numbers.TheConstants.{DECIMAL};
 ghost use Rattle.sec_ops.specs.Number.{number, trimmed, digits_number, is_whitespace, is_digit, positive, negative};
 
+use crate::characters::{CARRIAGE_RETURN, MINUS, PLUS, SPACE, TAB, ZERO};
 use std::cmp::Ordering;
+
+/// The base of the numbers that are compared.
+pub const DECIMAL: u64 = 10;
 
 /// How the number of a value stands to that of the argument.
 pub(crate) fn order_of(argument: &[u8], value: &[u8]) -> Ordering
@@ -11,14 +16,14 @@ pub(crate) fn order_of(argument: &[u8], value: &[u8]) -> Ordering
     number(value).cmp(&number(argument))
 }
 
-/// The number of a text: at most one sign and then digits, behind the whitespace at its front, and 0
+/// The number of a text: at most one sign and then digits, after the whitespace at its front, and 0
 /// where there is none. What is beyond `i64` is its nearest end.
 pub fn number(text: &[u8]) -> i64
     ensures { result ≡ number text.now }
 {
     match behind_whitespace(text) {
-        [b'-', digits @ ..] => below_zero(magnitude(digits)),
-        [b'+', digits @ ..] => above_zero(magnitude(digits)),
+        [MINUS, digits @ ..] => below_zero(magnitude(digits)),
+        [PLUS, digits @ ..] => above_zero(magnitude(digits)),
         digits => above_zero(magnitude(digits)),
     }
 }
@@ -43,15 +48,15 @@ pub(crate) fn magnitude(text: &[u8]) -> u64
         if !is_digit(*byte) {
             return sum;
         }
-        sum = and_digit(sum, *byte - b'0');
+        sum = and_digit(sum, *byte - ZERO);
     }
     sum
 }
 
 fn and_digit(sum: u64, digit: u8) -> u64
-    ensures { result ≡ min (sum * 10 + digit) (2 ^ 63) }
+    ensures { result ≡ min (sum * DECIMAL + digit) (2 ^ 63) }
 {
-    sum.saturating_mul(10)
+    sum.saturating_mul(DECIMAL)
         .saturating_add(u64::from(digit))
         .min(1 << 63)
 }
@@ -74,7 +79,7 @@ fn below_zero(n: u64) -> i64
 fn is_whitespace(byte: u8) -> bool
     ensures { result ≡ is_whitespace byte }
 {
-    matches!(byte, 9..=13 | b' ')
+    matches!(byte, TAB..=CARRIAGE_RETURN | SPACE)
 }
 
 pub(crate) fn is_digit(byte: u8) -> bool

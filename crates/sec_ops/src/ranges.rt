@@ -4,6 +4,7 @@ ghost use Rattle.std.specs.List.{list_all, list_any, take_while};
 ghost use Rattle.sec_ops.specs.Number.{is_digit};
 ghost use Rattle.sec_ops.specs.Ranges.{byte_of, has_other, has_plain_front, is_in_range, is_plain, pair_of, range_of};
 
+use crate::characters::{MINUS, ZERO};
 use crate::numbers::{is_digit, magnitude};
 use std::alloc::Global;
 use waf_plain::{Bytes, NoMemory, Seq};
@@ -30,7 +31,7 @@ fn range_of(word: &[u8]) -> Range
     let low = byte_of(digits);
     match rest {
         [] => single(low),
-        [b'-', high @ ..] => pair_of(low, byte_of(high)),
+        [MINUS, high @ ..] => pair_of(low, byte_of(high)),
         _ => None,
     }
 }
@@ -95,7 +96,7 @@ fn has_plain_front(text: &[u8]) -> bool
     match text {
         [] => false,
         [_] => true,
-        [c, ..] => *c != b'0',
+        [c, ..] => *c != ZERO,
     }
 }
 

@@ -1,16 +1,17 @@
 -- A path without the pieces that say nothing.
 use Rattle.std.specs.Prelude.{ℕ, ◌-◌, Bool, true, false, not, cond, ◌&&◌, ◌==◌, List, [], ◌∷◌, ◌++◌, length, take, slice_get, Option, Some, None}
 use Rattle.std.specs.List.{fold, slice_split, join_with_byte}
+use Rattle.sec_transforms.specs.declared.characters.TheConstants.{DOT, SLASH}
 
 -- an empty piece or `.`
 abbrev pub is_nothing : List ℕ → Bool
 is_nothing [] = true
-is_nothing (a ∷ []) = a == 46
+is_nothing (a ∷ []) = a == DOT
 is_nothing other = false
 
 -- `..`
 abbrev pub is_up : List ℕ → Bool
-is_up (a ∷ b ∷ []) = a == 46 && b == 46
+is_up (a ∷ b ∷ []) = a == DOT && b == DOT
 is_up other = false
 
 -- whether the last piece is there and is not `..`
@@ -33,14 +34,15 @@ after rooted left piece =
 
 abbrev pub is_rooted : List ℕ → Bool
 is_rooted [] = false
-is_rooted (a ∷ rest) = a == 47
+is_rooted (a ∷ rest) = a == SLASH
 
 abbrev pub left_of : List ℕ → Left
-left_of value = fold (after (is_rooted value)) ([], false) (slice_split (λ b. b == 47) value)
+left_of value = fold (after (is_rooted value)) ([], false) (slice_split (λ b. b == SLASH) value)
 
 abbrev pub tail_of : Left → List ℕ
 tail_of ([], dropped) = []
-tail_of ((p ∷ rest), dropped) = cond dropped (47 ∷ []) []
+tail_of ((p ∷ rest), dropped) = cond dropped (SLASH ∷ []) []
 
 abbrev pub path : List ℕ → List ℕ
-path value = cond (is_rooted value) (47 ∷ []) [] ++ (join_with_byte 47 (left_of value).0 ++ tail_of (left_of value))
+path value =
+    cond (is_rooted value) (SLASH ∷ []) [] ++ (join_with_byte SLASH (left_of value).0 ++ tail_of (left_of value))

@@ -3,7 +3,9 @@ ghost use Rattle.std.specs.Char.{to_ascii_lowercase, to_ascii_uppercase};
 ghost use Rattle.sec_decoders.specs.declared.pieces.TheConstants.{LIMIT};
 ghost use Rattle.sec_transforms.specs.Alphabets.{is_not_null, null_as_space, plus_as_space, backslash_as_slash};
 
+use crate::characters::SLASH;
 use crate::limit::cut;
+use sec_decoders::characters::{BACKSLASH, PLUS, SPACE};
 use std::alloc::Global;
 use waf_plain::{Bytes, NoMemory};
 
@@ -56,7 +58,7 @@ impl Alphabet for NullsAsSpaces {
     ghost image = { null_as_space };
 
     fn image(&self, byte: u8) -> u8 {
-        if byte == 0 { b' ' } else { byte }
+        if byte == 0 { SPACE } else { byte }
     }
 }
 
@@ -67,7 +69,7 @@ impl Alphabet for PlusAsSpace {
     ghost image = { plus_as_space };
 
     fn image(&self, byte: u8) -> u8 {
-        if byte == b'+' { b' ' } else { byte }
+        if byte == PLUS { SPACE } else { byte }
     }
 }
 
@@ -78,7 +80,7 @@ impl Alphabet for Slashes {
     ghost image = { backslash_as_slash };
 
     fn image(&self, byte: u8) -> u8 {
-        if byte == b'\\' { b'/' } else { byte }
+        if byte == BACKSLASH { SLASH } else { byte }
     }
 }
 

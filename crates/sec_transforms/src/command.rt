@@ -3,7 +3,11 @@ ghost use Rattle.std.specs.Char.{to_ascii_lowercase};
 ghost use Rattle.sec_decoders.specs.declared.pieces.TheConstants.{LIMIT};
 ghost use Rattle.sec_transforms.specs.CmdLine.{cmd_line, to_come, is_mark, is_blank, closes};
 
+use crate::characters::{CIRCUMFLEX, COMMA, OPENING_PARENTHESIS, SINGLE_QUOTE, SLASH};
 use sec_decoders::LIMIT;
+use sec_decoders::characters::{
+    BACKSLASH, CARRIAGE_RETURN, LINE_FEED, QUOTE, SEMICOLON, SPACE, TAB,
+};
 use std::alloc::Global;
 use waf_plain::{Bytes, NoMemory};
 
@@ -51,7 +55,7 @@ impl Line {
             self.out.push(lower(byte))?;
             return Ok(());
         }
-        self.out.append(&[b' ', lower(byte)])?;
+        self.out.append(&[SPACE, lower(byte)])?;
         Ok(())
     }
 
@@ -62,7 +66,7 @@ impl Line {
         if !space {
             return Ok(out);
         }
-        out.push(b' ')?;
+        out.push(SPACE)?;
         Ok(out)
     }
 }
@@ -70,19 +74,22 @@ impl Line {
 fn is_mark(byte: u8) -> bool
     ensures { result ≡ is_mark byte }
 {
-    matches!(byte, b'\\' | b'"' | b'\'' | b'^')
+    matches!(byte, BACKSLASH | QUOTE | SINGLE_QUOTE | CIRCUMFLEX)
 }
 
 fn is_blank(byte: u8) -> bool
     ensures { result ≡ is_blank byte }
 {
-    matches!(byte, b' ' | b',' | b';' | 9 | 10 | 13)
+    matches!(
+        byte,
+        SPACE | COMMA | SEMICOLON | TAB | LINE_FEED | CARRIAGE_RETURN
+    )
 }
 
 fn closes(byte: u8) -> bool
     ensures { result ≡ closes byte }
 {
-    matches!(byte, b'/' | b'(')
+    matches!(byte, SLASH | OPENING_PARENTHESIS)
 }
 
 fn lower(byte: u8) -> u8

@@ -2,11 +2,21 @@ ghost use Rattle.std.specs.Prelude.{◌≡◌, ◌≤◌, [], length, take, cond
 ghost use Rattle.sec_decoders.specs.Pieces.{pieces};
 ghost use Rattle.sec_decoders.specs.declared.pieces.TheConstants.{LIMIT};
 ghost use Rattle.sec_transforms.specs.Comments.{to_close, comments, comment_marks, html_open, html_close, two_marks, is_pair};
+ghost use Rattle.sec_transforms.specs.declared.comments.TheConstants.{HTML_CLOSE_LENGTH, HTML_OPEN_LENGTH, PAIR_LENGTH};
 
+use crate::characters::{ASTERISK, EXCLAMATION_MARK, MINUS, SLASH};
 use memchr::memmem;
+use sec_decoders::characters::{GREATER_THAN, HASH, LESS_THAN, SPACE};
 use sec_decoders::{Decoder, Piece, decode};
 use std::alloc::Global;
 use waf_plain::{Bytes, NoMemory};
+
+/// How many bytes `<!--` takes.
+pub const HTML_OPEN_LENGTH: usize = 4;
+/// How many bytes `-->` takes.
+pub const HTML_CLOSE_LENGTH: usize = 3;
+/// How many bytes `/*`, `*/` and `--` take.
+pub const PAIR_LENGTH: usize = 2;
 
 /// `replaceComments`: each comment of C gives a space, also one that does not close.
 pub(crate) fn replace_comments(alloc: Global, value: &[u8]) -> Result<Bytes, NoMemory>
@@ -23,7 +33,9 @@ impl Decoder for Comments {
 
     fn piece(&self, front: &[u8]) -> Piece {
         match front {
-            [b'/', b'*', ..] => Piece::byte(b' ', 2 + close(front.split_at(2).1)),
+            [SLASH, ASTERISK, ..] => {
+                Piece::byte(SPACE, PAIR_LENGTH + close(front.split_at(PAIR_LENGTH).1))
+            },
             _ => Piece::byte(front[0], 1),
         }
     }
@@ -35,7 +47,7 @@ fn close(text: &[u8]) -> usize
     ensures within { result ≤ length text.now }
 {
     match memmem::find(text, b"*/") {
-        Some(at) => at + 2,
+        Some(at) => at + PAIR_LENGTH,
         None => text.len(),
     }
 }
@@ -55,15 +67,15 @@ impl Decoder for Marks {
 
     fn piece(&self, front: &[u8]) -> Piece {
         if is_html_open(front) {
-            return Piece::nothing(4);
+            return Piece::nothing(HTML_OPEN_LENGTH);
         }
         if is_html_close(front) {
-            return Piece::nothing(3);
+            return Piece::nothing(HTML_CLOSE_LENGTH);
         }
         if is_two_marks(front) {
-            return Piece::nothing(2);
+            return Piece::nothing(PAIR_LENGTH);
         }
-        if front[0] == b'#' {
+        if front[0] == HASH {
             return Piece::nothing(1);
         }
         Piece::byte(front[0], 1)
@@ -71,22 +83,22 @@ impl Decoder for Marks {
 }
 
 fn is_html_open(front: &[u8]) -> bool
-    ensures row { html_open front.now ≡ cond result (Some ([], 4)) None }
-    ensures there { IsTrue result → 4 ≤ length front.now }
+    ensures row { html_open front.now ≡ cond result (Some ([], HTML_OPEN_LENGTH)) None }
+    ensures there { IsTrue result → HTML_OPEN_LENGTH ≤ length front.now }
 {
-    matches!(front, [b'<', b'!', b'-', b'-', ..])
+    matches!(front, [LESS_THAN, EXCLAMATION_MARK, MINUS, MINUS, ..])
 }
 
 fn is_html_close(front: &[u8]) -> bool
-    ensures row { html_close front.now ≡ cond result (Some ([], 3)) None }
-    ensures there { IsTrue result → 3 ≤ length front.now }
+    ensures row { html_close front.now ≡ cond result (Some ([], HTML_CLOSE_LENGTH)) None }
+    ensures there { IsTrue result → HTML_CLOSE_LENGTH ≤ length front.now }
 {
-    matches!(front, [b'-', b'-', b'>', ..])
+    matches!(front, [MINUS, MINUS, GREATER_THAN, ..])
 }
 
 fn is_two_marks(front: &[u8]) -> bool
-    ensures row { two_marks front.now ≡ cond result (Some ([], 2)) None }
-    ensures there { IsTrue result → 2 ≤ length front.now }
+    ensures row { two_marks front.now ≡ cond result (Some ([], PAIR_LENGTH)) None }
+    ensures there { IsTrue result → PAIR_LENGTH ≤ length front.now }
 {
     match front {
         [a, b, ..] => is_pair(*a, *b),
@@ -97,5 +109,8 @@ fn is_two_marks(front: &[u8]) -> bool
 fn is_pair(a: u8, b: u8) -> bool
     ensures { result ≡ is_pair a b }
 {
-    matches!((a, b), (b'/', b'*') | (b'*', b'/') | (b'-', b'-'))
+    matches!(
+        (a, b),
+        (SLASH, ASTERISK) | (ASTERISK, SLASH) | (MINUS, MINUS)
+    )
 }

@@ -1,4 +1,4 @@
-ghost use Rattle.std.specs.Prelude.{◌≡◌, ◌<◌, ◌+◌, ◌*◌, ◌/◌, ◌%◌, ◌≤◌, length, take, map, filter, not, decimal, IfOk};
+ghost use Rattle.std.specs.Prelude.{◌≡◌, ◌<◌, ◌^◌, ◌≤◌, length, take, map, filter, not, decimal, IfOk};
 ghost use Rattle.std.specs.List.{take_while};
 ghost use Rattle.base64.specs.Engines.{standard};
 ghost use Rattle.base64.specs.GeneralPurpose.{encode_of};
@@ -8,20 +8,31 @@ ghost use Rattle.sha1.specs.Sha1.{sha1};
 ghost use Rattle.percent_encoding.specs.Percent.{percent_decode};
 ghost use Rattle.sec_decoders.specs.Pieces.{pieces};
 ghost use Rattle.sec_decoders.specs.declared.pieces.TheConstants.{LIMIT};
-ghost use Rattle.sec_transforms.specs.Encodings.{bytes_of_hex, letters_of, sextet, is_letter, group, is_line_end};
+ghost use Rattle.sec_transforms.specs.Encodings.{bytes_of_hex, first_byte, second_byte, third_byte, letters_of, sextet, is_letter, group, is_line_end};
 ghost use Rattle.sec_transforms.specs.Alphabets.{plus_as_space};
 
 use crate::alphabets::{PlusAsSpace, mapped};
+use crate::characters::{CAPITAL_Z, SLASH, SMALL_Z};
 use crate::limit::cut;
 use arrayvec::ArrayVec;
 use base64::engine::general_purpose::STANDARD;
 use hex::FromHexError;
 use md5::{Digest, Md5};
 use percent_encoding::percent_decode;
+use sec_decoders::characters::{CAPITAL_A, CARRIAGE_RETURN, LINE_FEED, NINE, PLUS, SMALL_A, ZERO};
 use sec_decoders::{Decoder, Piece, decode};
 use sha1::Sha1;
 use std::alloc::Global;
 use waf_plain::{Bytes, NoMemory};
+
+/// The sextet of `a` in base64: so many capital letters stand before it.
+pub const SMALL_LETTERS: u8 = 26;
+/// The sextet of `0` in base64: so many letters stand before it.
+pub const DIGITS: u8 = 52;
+/// The sextet of `+` in base64.
+pub const PLUS_SEXTET: u8 = 62;
+/// The sextet of `/` in base64.
+pub const SLASH_SEXTET: u8 = 63;
 
 /// `base64Encode`: RFC 4648, section 4.
 pub(crate) fn base64_encode(alloc: Global, value: &[u8]) -> Result<Bytes, NoMemory>
@@ -96,19 +107,19 @@ impl Decoder for Groups {
 }
 
 fn first_byte(a: u8, b: u8) -> u8
-    ensures { result ≡ sextet a * 4 + sextet b / 16 }
+    ensures { result ≡ first_byte a b }
 {
     sextet(a) * 4 + sextet(b) / 16
 }
 
 fn second_byte(b: u8, c: u8) -> u8
-    ensures { result ≡ sextet b % 16 * 16 + sextet c / 4 }
+    ensures { result ≡ second_byte b c }
 {
     sextet(b) % 16 * 16 + sextet(c) / 4
 }
 
 fn third_byte(c: u8, d: u8) -> u8
-    ensures { result ≡ sextet c % 4 * 64 + sextet d }
+    ensures { result ≡ third_byte c d }
 {
     sextet(c) % 4 * 64 + sextet(d)
 }
@@ -116,14 +127,14 @@ fn third_byte(c: u8, d: u8) -> u8
 /// The six bits of a letter, 0 for another byte.
 fn sextet(byte: u8) -> u8
     ensures number { result ≡ sextet byte }
-    ensures small { result < 64 }
+    ensures small { result < 2 ^ 6 }
 {
     match byte {
-        b'A'..=b'Z' => byte - b'A',
-        b'a'..=b'z' => byte - b'a' + 26,
-        b'0'..=b'9' => byte - b'0' + 52,
-        b'+' => 62,
-        b'/' => 63,
+        CAPITAL_A..=CAPITAL_Z => byte - CAPITAL_A,
+        SMALL_A..=SMALL_Z => byte - SMALL_A + SMALL_LETTERS,
+        ZERO..=NINE => byte - ZERO + DIGITS,
+        PLUS => PLUS_SEXTET,
+        SLASH => SLASH_SEXTET,
         _ => 0,
     }
 }
@@ -131,13 +142,13 @@ fn sextet(byte: u8) -> u8
 fn is_letter(byte: u8) -> bool
     ensures { result ≡ is_letter byte }
 {
-    matches!(byte, b'A'..=b'Z' | b'a'..=b'z' | b'0'..=b'9' | b'+' | b'/')
+    matches!(byte, CAPITAL_A..=CAPITAL_Z | SMALL_A..=SMALL_Z | ZERO..=NINE | PLUS | SLASH)
 }
 
 fn is_line_end(byte: u8) -> bool
     ensures { result ≡ is_line_end byte }
 {
-    matches!(byte, b'\r' | b'\n')
+    matches!(byte, CARRIAGE_RETURN | LINE_FEED)
 }
 
 /// `hexEncode`.

@@ -3,6 +3,7 @@
 
 mod alphabets;
 mod apply_names;
+mod characters;
 mod command;
 mod comments;
 mod encodings;

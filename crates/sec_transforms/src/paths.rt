@@ -4,8 +4,10 @@ ghost use Rattle.std.specs.List.{slice_split, join_with_byte};
 ghost use Rattle.sec_decoders.specs.declared.pieces.TheConstants.{LIMIT};
 ghost use Rattle.sec_transforms.specs.NormalizePath.{after, ends_in_name, is_rooted, tail_of, path};
 ghost use Rattle.sec_transforms.specs.Alphabets.{backslash_as_slash};
+ghost use Rattle.sec_transforms.specs.declared.characters.TheConstants.{SLASH};
 
 use crate::alphabets::{Slashes, mapped};
+use crate::characters::{DOT, SLASH};
 use sec_decoders::LIMIT;
 use std::alloc::Global;
 use waf_plain::{Bytes, NoMemory};
@@ -36,7 +38,7 @@ pub(crate) fn normalize_path_win(alloc: Global, value: &[u8]) -> Result<Bytes, N
 
 fn written(alloc: Global, rooted: bool, left: &[&[u8]], dropped: bool) -> Result<Bytes, NoMemory>
     ensures { IfOk result (λ bytes. let kept = map (λ p. p.now) left.now in
-        bytes ≡ cond rooted (47 ∷ []) [] ++ (join_with_byte 47 kept ++ tail_of (kept, dropped))) }
+        bytes ≡ cond rooted (SLASH ∷ []) [] ++ (join_with_byte SLASH kept ++ tail_of (kept, dropped))) }
 {
     let mut out = Bytes::new(alloc);
     out.append(slash_if(rooted))?;
@@ -46,7 +48,7 @@ fn written(alloc: Global, rooted: bool, left: &[&[u8]], dropped: bool) -> Result
 }
 
 fn slash_if(wanted: bool) -> &'static [u8]
-    ensures { result.now ≡ cond wanted (47 ∷ []) [] }
+    ensures { result.now ≡ cond wanted (SLASH ∷ []) [] }
 {
     if wanted { b"/" } else { b"" }
 }
@@ -63,13 +65,13 @@ fn tail(left: &[&[u8]], dropped: bool) -> &'static [u8]
 fn starts_at_root(value: &[u8]) -> bool
     ensures { result ≡ is_rooted value.now }
 {
-    matches!(value, [b'/', ..])
+    matches!(value, [SLASH, ..])
 }
 
 fn pieces_of(alloc: Global, value: &[u8]) -> Result<Vec<&[u8]>, NoMemory>
-    ensures { IfOk result (λ v. map (λ p. p.now) v.items ≡ slice_split (λ b. b == 47) value.now) }
+    ensures { IfOk result (λ v. map (λ p. p.now) v.items ≡ slice_split (λ b. b == SLASH) value.now) }
 {
-    let pieces = value.split(|b| *b == b'/').collect(alloc)?;
+    let pieces = value.split(|b| *b == SLASH).collect(alloc)?;
     Ok(pieces)
 }
 
@@ -80,8 +82,8 @@ fn step<'a>(rooted: bool, left: &mut Vec<&'a [u8]>, piece: &'a [u8]) -> Result<b
         ≡ (map (λ p. p.now) left.new.items, dropped)) }
 {
     match piece {
-        [] | [b'.'] => Ok(true),
-        [b'.', b'.'] => {
+        [] | [DOT] => Ok(true),
+        [DOT, DOT] => {
             if last_is_name(left.as_slice()) {
                 left.pop();
                 return Ok(true);
@@ -103,20 +105,20 @@ fn last_is_name(left: &[&[u8]]) -> bool
     ensures { result ≡ ends_in_name (map (λ p. p.now) left.now) }
 {
     match left.last() {
-        None | Some([b'.', b'.']) => false,
+        None | Some([DOT, DOT]) => false,
         Some(_) => true,
     }
 }
 
 fn join(out: &mut Bytes, left: &[&[u8]]) -> Result<(), NoMemory>
-    ensures { OnOk result (out.new ≡ out.old ++ join_with_byte 47 (map (λ p. p.now) left.now)) }
+    ensures { OnOk result (out.new ≡ out.old ++ join_with_byte SLASH (map (λ p. p.now) left.now)) }
 {
     let Some((first, others)) = left.split_first() else {
         return Ok(());
     };
     out.append(*first)?;
     for piece in others {
-        out.push(b'/')?;
+        out.push(SLASH)?;
         out.append(*piece)?;
     }
     Ok(())

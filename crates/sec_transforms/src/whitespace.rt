@@ -5,6 +5,7 @@ ghost use Rattle.sec_decoders.specs.declared.pieces.TheConstants.{LIMIT};
 ghost use Rattle.sec_transforms.specs.Whitespace.{is_white, is_wide, run, trimmed_left, trimmed_right};
 
 use crate::limit::cut;
+use sec_decoders::characters::{CARRIAGE_RETURN, NO_BREAK_SPACE, SPACE, TAB};
 use sec_decoders::{Decoder, Piece, decode};
 use std::alloc::Global;
 use waf_plain::{Bytes, NoMemory};
@@ -24,7 +25,7 @@ impl Decoder for Runs {
 
     fn piece(&self, front: &[u8]) -> Piece {
         match front.split_first() {
-            Some((first, rest)) if is_wide(*first) => Piece::byte(b' ', 1 + run_len(rest)),
+            Some((first, rest)) if is_wide(*first) => Piece::byte(SPACE, 1 + run_len(rest)),
             _ => Piece::byte(front[0], 1),
         }
     }
@@ -103,11 +104,11 @@ fn before_whitespace(text: &[u8]) -> &[u8]
 fn is_white(byte: u8) -> bool
     ensures { result ≡ is_white byte }
 {
-    matches!(byte, 9..=13 | b' ')
+    matches!(byte, TAB..=CARRIAGE_RETURN | SPACE)
 }
 
 fn is_wide(byte: u8) -> bool
     ensures { result ≡ is_wide byte }
 {
-    matches!(byte, 9..=13 | b' ' | 160)
+    matches!(byte, TAB..=CARRIAGE_RETURN | SPACE | NO_BREAK_SPACE)
 }
