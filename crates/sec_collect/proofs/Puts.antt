@@ -6,8 +6,9 @@ use Rattle.std.proofs.Math.Seq.{drop-cons}
 use Rattle.std.proofs.lemmas.List.{take-append-drop, take-set, drop-set}
 use Rattle.std.proofs.lemmas.Grind.{common_steps}
 use Rattle.web_parts.specs.declared.row.NameValue.{NameValue}
+use Rattle.sec_collect.specs.declared.variables.TheConstants.{VARIABLES_LIMIT}
 use Rattle.sec_collect.specs.Row.{is_named, size_of}
-use Rattle.sec_collect.specs.Variables.{ArePut, by_put, put, put_within, without}
+use Rattle.sec_collect.specs.Variables.{ArePut, by_put, put, without}
 
 -- items of a list's own length, put into it
 pub items_put : {A : Type 0} (xs ys : List A) → length ys ≡ length xs → take (length xs) (ys ++ drop (length ys) xs) ≡ ys
@@ -22,7 +23,7 @@ put_here xs n v i d below before there = before ∙ (rw (drop-cons xs i d, there
 
 -- a put that fits keeps to what puts make, and out of memory nothing changes
 pub stay_put : {T E : Type 0} (r : Result T E) (n v : List ℕ) (old new : List NameValue)
-    → nat_le (size_of (without n old) + (length n + length v)) 65536 ≡ true
+    → nat_le (size_of (without n old) + (length n + length v)) VARIABLES_LIMIT ≡ true
     → ArePut old → OnOk r (new ≡ put n v old) → OnErr r (new ≡ old) → ArePut new
 stay_put (Ok x) n v old new fits are ok err = rw ok (rw fits at (by_put n v old are))
 stay_put (Err e) n v old new fits are ok err = rw err are

@@ -8,13 +8,14 @@ use Rattle.web_parts.specs.declared.row.NameValue.{NameValue}
 use Rattle.web_parts.specs.Arguments.{argument_rows}
 use Rattle.web_parts.specs.Headers.{header_rows}
 use Rattle.web_parts.specs.Pieces.{is_blank}
+use Rattle.sec_collect.specs.declared.marks.TheConstants.{COMMA, SEMICOLON}
 use Rattle.sec_collect.specs.declared.parts.OpenedBody.{OpenedBody}
 use Rattle.sec_collect.specs.Row.{value_named}
-use Rattle.sec_collect.specs.Held.{Held}
+use Rattle.sec_collect.specs.TransactionView.{TransactionView}
 
 -- `;`, `,` or a blank
 abbrev pub ends_media_type : ℕ → Bool
-ends_media_type b = b == 59 || b == 44 || is_blank b
+ends_media_type b = b == SEMICOLON || b == COMMA || is_blank b
 
 -- the media type of the header fields (RFC 9110, 8.3)
 abbrev pub media_type : List NameValue → List ℕ
@@ -33,7 +34,7 @@ chosen processors.Plain headers = cond (is_form headers) processors.Urlencoded p
 chosen processors.Urlencoded headers = processors.Urlencoded
 chosen processors.Xml headers = processors.Xml
 
-abbrev pub chosen_processor : Held → Processor
+abbrev pub chosen_processor : TransactionView → Processor
 chosen_processor s = chosen s.processor (header_rows s.request.headers)
 
 -- the processor of an opened body, and else the one that would be chosen now

@@ -16,7 +16,7 @@ use Rattle.sec_collect.specs.declared.response_rows.ResponseRows.{ResponseRows}
 use Rattle.sec_collect.specs.declared.kept_rows.KeptRows.{KeptRows}
 use Rattle.sec_collect.specs.declared.vars.Vars.TheInside.{Inside}
 use Rattle.sec_collect.specs.Row.{size_of}
-use Rattle.sec_collect.specs.Held.{Held}
+use Rattle.sec_collect.specs.TransactionView.{TransactionView}
 use Rattle.sec_collect.specs.Request.{basename, line_text, port_text, protocol_text, server_name, uri_text}
 use Rattle.sec_collect.specs.Body.{is_form, left_length, posted}
 use Rattle.sec_collect.specs.Response.{content_type, length_text, response_headers, response_protocol, status_text}
@@ -71,8 +71,8 @@ kept_rows r body response = record {
   response = response_rows response;
 }
 
-abbrev pub held_by : Inside → Held
-held_by v = record {
+abbrev pub vars_view : Inside → TransactionView
+vars_view v = record {
   request = v.request;
   processor = v.processor;
   body = v.body;

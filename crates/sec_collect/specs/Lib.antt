@@ -1,5 +1,5 @@
 pub mod Row
-pub mod Held
+pub mod TransactionView
 pub mod Request
 pub mod Body
 pub mod Captures
@@ -8,5 +8,5 @@ pub mod Rows
 pub mod Variables
 pub mod Selection
 pub mod Expansion
-pub mod Lent
+pub mod RowList
 pub mod Kept

@@ -3,6 +3,7 @@ use Rattle.std.specs.Prelude.{ℕ, cond, List, [], codes, decimal, length, Optio
 use Rattle.web_parts.specs.declared.row.NameValue.{NameValue}
 use Rattle.web_parts.specs.Headers.{header_rows}
 use Rattle.web_parts.specs.Pieces.{before, trimmed}
+use Rattle.sec_collect.specs.declared.marks.TheConstants.{SEMICOLON}
 use Rattle.sec_collect.specs.declared.parts.AddedResponse.{AddedResponse}
 use Rattle.sec_collect.specs.Row.{single, value_named}
 use Rattle.sec_collect.specs.Request.{protocol_text}
@@ -22,7 +23,7 @@ response_headers (Some added) = header_rows added.response.headers
 
 -- the media type of the header fields without its parameters (RFC 9110, 8.3)
 abbrev pub content_type_in : List NameValue → List ℕ
-content_type_in headers = trimmed (before 59 (value_named (codes "content-type") headers))
+content_type_in headers = trimmed (before SEMICOLON (value_named (codes "content-type") headers))
 
 abbrev pub content_type : AddedResponse → List ℕ
 content_type added = content_type_in (header_rows added.response.headers)

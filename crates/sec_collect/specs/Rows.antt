@@ -10,32 +10,32 @@ use Rattle.web_parts.specs.Arguments.{argument_rows}
 use Rattle.web_parts.specs.Cookies.{cookie_rows}
 use Rattle.web_parts.specs.Headers.{header_rows}
 use Rattle.sec_collect.specs.Row.{single, optional, names_of, size_of}
-use Rattle.sec_collect.specs.Held.{Held}
+use Rattle.sec_collect.specs.TransactionView.{TransactionView}
 use Rattle.sec_collect.specs.Request.{port_text, protocol_text, uri_text, line_text, basename, server_name}
 use Rattle.sec_collect.specs.Body.{chosen_processor, processor_of, left_of, left_length, posted, is_longer, flag_text}
 use Rattle.sec_collect.specs.Response.{status_text, response_protocol, length_text, response_headers, content_type, response_body}
 
 -- of the query, of the body, and of both
-abbrev pub get_rows : Held → List NameValue
+abbrev pub get_rows : TransactionView → List NameValue
 get_rows s = argument_rows s.request.query
 
-abbrev pub post_rows : Held → List NameValue
+abbrev pub post_rows : TransactionView → List NameValue
 post_rows s = posted s.request.body s.body
 
-abbrev pub all_arguments : Held → List NameValue
+abbrev pub all_arguments : TransactionView → List NameValue
 all_arguments s = get_rows s ++ post_rows s
 
-abbrev pub headers : Held → List NameValue
+abbrev pub headers : TransactionView → List NameValue
 headers s = header_rows s.request.headers
 
-abbrev pub cookies : Held → List NameValue
+abbrev pub cookies : TransactionView → List NameValue
 cookies s = cookie_rows (headers s)
 
-abbrev pub last_matched : Held → Option NameValue
+abbrev pub last_matched : TransactionView → Option NameValue
 last_matched s = slice_get s.matched (length s.matched - 1)
 
 -- each single variable has one row without a name, or none
-unfoldable pub rows_of : Var → Held → List NameValue
+unfoldable pub rows_of : Var → TransactionView → List NameValue
 rows_of vars.RemoteAddr s = single (text_of s.request.src)
 rows_of vars.RemotePort s = single (port_text s.request.src_port)
 rows_of vars.ServerAddr s = single (text_of s.request.dst)

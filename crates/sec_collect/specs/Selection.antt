@@ -8,8 +8,9 @@ use Rattle.sec_ast.specs.declared.target.Select.TheVariants as selects
 use Rattle.sec_ast.specs.declared.target.Target.{Target}
 use Rattle.sec_ast.specs.Variable.{variable_name}
 use Rattle.web_parts.specs.declared.row.NameValue.{NameValue}
+use Rattle.sec_collect.specs.declared.marks.TheConstants.{AMPERSAND, COLON}
 use Rattle.sec_collect.specs.declared.row_ref.RowRef.{RowRef}
-use Rattle.sec_collect.specs.Held.{Held}
+use Rattle.sec_collect.specs.TransactionView.{TransactionView}
 use Rattle.sec_collect.specs.Rows.{rows_of}
 
 -- a pattern selects by its meaning, and one that is not there selects nothing
@@ -46,7 +47,7 @@ keeps meaning targets removed t name =
     && not (list_any (removes t.0.var name) removed || list_any (excludes meaning t.0.var name) targets)
 
 -- the rows that a target leaves
-abbrev pub left : {M : Type 0} → (M → List ℕ → Bool) → List (Target × Option M) → List Target → Held
+abbrev pub left : {M : Type 0} → (M → List ℕ → Bool) → List (Target × Option M) → List Target → TransactionView
     → Target × Option M → List NameValue
 left meaning targets removed s t = filter (λ r. keeps meaning targets removed t r.name) (rows_of t.0.var s)
 
@@ -63,22 +64,22 @@ abbrev pub count_row : Target → ℕ → RowRef
 count_row t count = record { var = t.var; name = selector_text t.select; value = decimal count; counted = true }
 
 -- none for an excluding target, the number of its rows for a counting one, and for every other its rows
-abbrev pub values_of : {M : Type 0} → (M → List ℕ → Bool) → List (Target × Option M) → List Target → Held
+abbrev pub values_of : {M : Type 0} → (M → List ℕ → Bool) → List (Target × Option M) → List Target → TransactionView
     → Target × Option M → List RowRef
 values_of meaning targets removed s t =
     if t.0.exclude then [] else
     if t.0.count then count_row t.0 (length (left meaning targets removed s t)) ∷ [] else
     map (value_row t.0.var) (left meaning targets removed s t)
 
-abbrev pub selection : {M : Type 0} → (M → List ℕ → Bool) → List (Target × Option M) → List Target → Held
+abbrev pub selection : {M : Type 0} → (M → List ℕ → Bool) → List (Target × Option M) → List Target → TransactionView
     → List RowRef
 selection meaning targets removed s = flat_map (values_of meaning targets removed s) targets
 
 -- a variable, and a name within it
 abbrev pub within : List ℕ → List ℕ → List ℕ
 within variable [] = variable
-within variable (b ∷ name) = variable ++ 58 ∷ b ∷ name
+within variable (b ∷ name) = variable ++ COLON ∷ b ∷ name
 
--- behind `&` where it is counted
+-- after `&` where it is counted
 abbrev pub full_name : RowRef → List ℕ
-full_name r = within (if r.counted then 38 ∷ variable_name r.var else variable_name r.var) r.name
+full_name r = within (if r.counted then AMPERSAND ∷ variable_name r.var else variable_name r.var) r.name

@@ -4,6 +4,7 @@ ghost use Rattle.sec_collect.specs.Row.{size_of};
 ghost use Rattle.sec_collect.specs.Body.{ends_media_type, flag_text, is_form, is_form_type, is_longer, is_urlencoded, left_of, media_type, posted};
 
 use crate::OpenedBody;
+use crate::marks::{COMMA, SEMICOLON};
 use crate::request::value_named;
 use crate::sizes::size_of;
 use sec_ast::Processor;
@@ -15,7 +16,7 @@ use web_parts::{NameValue, argument_rows};
 fn ends_media_type(byte: u8) -> bool
     ensures { result ≡ ends_media_type byte }
 {
-    byte == b';' || byte == b',' || byte == b' ' || byte == b'\t'
+    byte == SEMICOLON || byte == COMMA || byte == b' ' || byte == b'\t'
 }
 
 fn media_type(headers: &[NameValue]) -> &[u8]

@@ -1,5 +1,6 @@
 ghost use Rattle.std.specs.Prelude.{◌≡◌, ◌++◌, ◌+◌, ◌∷◌, [], take, IfOk, OnOk};
 ghost use Rattle.sec_collect.specs.Captures.{AreCaptured, captured_rows, numbered};
+ghost use Rattle.sec_collect.specs.declared.captures.TheConstants.{KEPT_GROUPS};
 
 use crate::request::digits;
 use std::alloc::{AllocError, Global};
@@ -7,8 +8,8 @@ use std::marker::Model;
 use waf_plain::{Bytes, NoMemory, Seq};
 use web_parts::NameValue;
 
-// How many groups are kept.
-const PLACES: usize = 10;
+// How many groups of a match are kept.
+const KEPT_GROUPS: usize = 10;
 
 /// The texts that were captured, as rows named by the numbers of their groups. They are those of one
 /// match, or none.
@@ -61,15 +62,15 @@ impl Clone for Captures {
 pub fn captured_rows(alloc: Global, groups: &[Option<Bytes>]) -> Result<Captures, NoMemory>
     ensures { IfOk result (λ captures. captures ≡ captured_rows groups.now) }
 {
-    let rows = numbered(alloc, first_places(groups))?;
+    let rows = numbered(alloc, first_groups(groups))?;
     Ok(Captures { rows })
 }
 
-fn first_places(groups: &[Option<Bytes>]) -> &[Option<Bytes>]
-    ensures { result.now ≡ take 10 groups.now }
+fn first_groups(groups: &[Option<Bytes>]) -> &[Option<Bytes>]
+    ensures { result.now ≡ take KEPT_GROUPS groups.now }
 {
-    if groups.len() > PLACES {
-        return groups.split_at(PLACES).0;
+    if groups.len() > KEPT_GROUPS {
+        return groups.split_at(KEPT_GROUPS).0;
     }
     groups
 }

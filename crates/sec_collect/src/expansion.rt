@@ -1,15 +1,16 @@
 ghost use Rattle.std.specs.Prelude.{◌≡◌, ◌++◌, ◌≤◌, [], length, take, IfOk, OnOk};
+ghost use Rattle.sec_collect.specs.declared.expansion.TheConstants.{EXPANSION_LIMIT};
 ghost use Rattle.sec_collect.specs.Row.{is_named};
 ghost use Rattle.sec_collect.specs.Expansion.{expansion, first_value, is_wanted, part_text};
-ghost use Rattle.sec_collect.specs.Lent.{lent};
+ghost use Rattle.sec_collect.specs.RowList.{row_list};
 
 use crate::{Rows, Vars};
 use sec_ast::{Macro, Part};
 use std::alloc::Global;
 use waf_plain::{Bytes, NoMemory};
 
-// How many bytes of an expanded macro are taken.
-const LIMIT: usize = 65536;
+/// How many bytes of an expanded macro are taken.
+pub const EXPANSION_LIMIT: usize = 65536;
 
 /// A macro with values in the places of its references, as far as its first 65536 bytes. A reference is
 /// the value of the first row of its variable, or of the first with its key as name, without regard
@@ -26,10 +27,10 @@ pub fn expand(alloc: Global, vars: &Vars, text: &Macro) -> Result<Bytes, NoMemor
 
 // Adds as many bytes as there is room for.
 fn add_within(out: &mut Bytes, text: &[u8]) -> Result<(), NoMemory>
-    requires { length out.old ≤ 65536 }
-    ensures { OnOk result (out.new ≡ take 65536 (out.old ++ text.now)) }
+    requires { length out.old ≤ EXPANSION_LIMIT }
+    ensures { OnOk result (out.new ≡ take EXPANSION_LIMIT (out.old ++ text.now)) }
 {
-    let room = LIMIT - out.len();
+    let room = EXPANSION_LIMIT - out.len();
     out.append(first_bytes(text, room))
 }
 
@@ -53,14 +54,14 @@ fn part_text<'a>(vars: &'a Vars, part: &'a Part) -> &'a [u8]
 
 // The value of the first row, with a key of the first of that name; empty where there is none.
 fn first_value<'a>(rows: Rows<'a>, key: &Option<Bytes>) -> &'a [u8]
-    ensures { result.now ≡ first_value key.now (lent rows.entry) }
+    ensures { result.now ≡ first_value key.now (row_list rows.entry) }
 {
     let mut rest = rows;
-    while let Some((name, value, behind)) = rest.split_first() {
+    while let Some((name, value, following)) = rest.split_first() {
         if is_wanted(key, name) {
             return value;
         }
-        rest = behind;
+        rest = following;
     }
     &[]
 }

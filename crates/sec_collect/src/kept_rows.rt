@@ -8,7 +8,7 @@ use std::alloc::Global;
 use waf_plain::NoMemory;
 use web_parts::Request;
 
-/// What is kept of a transaction, so that to lend the rows of a variable takes neither memory nor a
+/// What is kept of a transaction, so that to borrow the rows of a variable takes neither memory nor a
 /// pass over them.
 #[derive(Drop)]
 pub(crate) struct KeptRows {

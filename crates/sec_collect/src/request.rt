@@ -3,6 +3,9 @@ ghost use Rattle.sec_collect.specs.Row.{value_named};
 ghost use Rattle.sec_collect.specs.Response.{content_type_in};
 ghost use Rattle.sec_collect.specs.Request.{basename, host_of, is_slash, line_text, port_text, protocol_text, server_name, uri_text};
 
+use crate::marks::{
+    BACKSLASH, COLON, LEFT_BRACKET, QUESTION_MARK, RIGHT_BRACKET, SEMICOLON, SLASH, SPACE,
+};
 use crate::pieces::{before, through};
 use crate::sizes::is_named;
 use std::alloc::Global;
@@ -49,7 +52,7 @@ pub(crate) fn uri_text(alloc: Global, path: &[u8], query: &[u8]) -> Result<Bytes
 {
     let mut text = Bytes::copy(alloc, path)?;
     if !query.is_empty() {
-        text.push(b'?')?;
+        text.push(QUESTION_MARK)?;
         text.append(query)?;
     }
     Ok(text)
@@ -67,9 +70,9 @@ pub(crate) fn line_text(
     ensures { IfOk result (λ text. text ≡ line_text request.now) }
 {
     let mut text = Bytes::copy(alloc, request.method.as_slice())?;
-    text.push(b' ')?;
+    text.push(SPACE)?;
     text.append(uri.as_slice())?;
-    text.push(b' ')?;
+    text.push(SPACE)?;
     text.append(protocol.as_slice())?;
     Ok(text)
 }
@@ -77,19 +80,19 @@ pub(crate) fn line_text(
 fn is_slash(byte: u8) -> bool
     ensures { result ≡ is_slash byte }
 {
-    byte == b'/' || byte == b'\\'
+    byte == SLASH || byte == BACKSLASH
 }
 
-/// The path behind its last slash or backslash.
+/// The path after its last slash or backslash.
 pub(crate) fn basename(path: &[u8]) -> &[u8]
     ensures { result.now ≡ basename path.now }
 {
     let mut name = path;
     let mut rest = path;
-    while let Some((first, behind)) = rest.split_first() {
-        rest = behind;
+    while let Some((first, following)) = rest.split_first() {
+        rest = following;
         if is_slash(*first) {
-            name = behind;
+            name = following;
         }
     }
     name
@@ -117,14 +120,14 @@ pub(crate) fn server_name(headers: &[NameValue]) -> &[u8]
 pub(crate) fn content_type(headers: &[NameValue]) -> &[u8]
     ensures { result.now ≡ content_type_in headers.now }
 {
-    trimmed(before(value_named(b"content-type", headers), b';'))
+    trimmed(before(value_named(b"content-type", headers), SEMICOLON))
 }
 
 fn host_of(value: &[u8]) -> &[u8]
     ensures { result.now ≡ host_of value.now }
 {
     match value {
-        [b'[', ..] => through(value, b']'),
-        _ => before(value, b':'),
+        [LEFT_BRACKET, ..] => through(value, RIGHT_BRACKET),
+        _ => before(value, COLON),
     }
 }

@@ -1,6 +1,7 @@
 ghost use Rattle.std.specs.Prelude.{◌≡◌, IfOk};
 ghost use Rattle.sec_collect.specs.Selection.{count_row, full_name, selector_text, value_row};
 
+use crate::marks::{AMPERSAND, COLON};
 use crate::request::digits;
 use sec_ast::{Select, Target, Var};
 use std::alloc::Global;
@@ -45,18 +46,18 @@ impl RowRef {
         })
     }
 
-    /// The variable, behind `&` where it is counted, and, where the name is not empty, a colon and
+    /// The variable, after `&` where it is counted, and, where the name is not empty, a colon and
     /// the name.
     pub fn full_name(&self, alloc: Global) -> Result<Bytes, NoMemory>
         ensures { IfOk result (λ text. text ≡ full_name self.now) }
     {
         let mut text = Bytes::new(alloc);
         if self.counted {
-            text.push(b'&')?;
+            text.push(AMPERSAND)?;
         }
         text.append(self.var.name())?;
         if !self.name.is_empty() {
-            text.push(b':')?;
+            text.push(COLON)?;
             text.append(self.name.as_slice())?;
         }
         Ok(text)

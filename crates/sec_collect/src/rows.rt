@@ -1,12 +1,12 @@
 ghost use Rattle.std.specs.Prelude.{◌≡◌, ◌∷◌, [], MatchOption};
-ghost use Rattle.sec_collect.specs.Lent.{lent};
+ghost use Rattle.sec_collect.specs.RowList.{row_list};
 ghost use Rattle.sec_collect.specs.Row.{optional, row};
 ghost use Rattle.std.specs.Option.{option_map};
 
 use waf_plain::Bytes;
 use web_parts::NameValue;
 
-/// The rows of a variable, in order, lent from what they were made from.
+/// The rows of a variable, in order, borrowed from what they were made from.
 #[derive(Clone, Copy, Debug)]
 pub enum Rows<'a> {
     Nothing,
@@ -20,10 +20,10 @@ pub enum Rows<'a> {
 }
 
 impl<'a> Rows<'a> {
-    /// The first row, by name and value, and the rows behind it; `None` where there is no row.
+    /// The first row, by name and value, and the rows after it; `None` where there is no row.
     pub fn split_first(self) -> Option<(&'a [u8], &'a [u8], Rows<'a>)>
-        ensures { MatchOption result (lent self.entry ≡ [])
-            (λ first. lent self.entry ≡ row first.0.now first.1.now ∷ lent first.2) }
+        ensures { MatchOption result (row_list self.entry ≡ [])
+            (λ first. row_list self.entry ≡ row first.0.now first.1.now ∷ row_list first.2) }
     {
         match self {
             Rows::Nothing => None,
@@ -38,21 +38,21 @@ fn first_pair<'a>(
     front: &'a [NameValue],
     rest: &'a [NameValue],
 ) -> Option<(&'a [u8], &'a [u8], Rows<'a>)>
-    ensures { MatchOption result (lent (Rows.Pairs front.entry rest.entry) ≡ [])
-        (λ first. lent (Rows.Pairs front.entry rest.entry) ≡ row first.0.now first.1.now ∷ lent first.2) }
+    ensures { MatchOption result (row_list (Rows.Pairs front.entry rest.entry) ≡ [])
+        (λ first. row_list (Rows.Pairs front.entry rest.entry) ≡ row first.0.now first.1.now ∷ row_list first.2) }
 {
-    if let Some((first, behind)) = front.split_first() {
+    if let Some((first, following)) = front.split_first() {
         return Some((
             first.name.as_slice(),
             first.value.as_slice(),
-            Rows::Pairs(behind, rest),
+            Rows::Pairs(following, rest),
         ));
     }
-    let (first, behind) = rest.split_first()?;
+    let (first, following) = rest.split_first()?;
     Some((
         first.name.as_slice(),
         first.value.as_slice(),
-        Rows::Pairs(&[], behind),
+        Rows::Pairs(&[], following),
     ))
 }
 
@@ -60,27 +60,27 @@ fn first_name<'a>(
     front: &'a [NameValue],
     rest: &'a [NameValue],
 ) -> Option<(&'a [u8], &'a [u8], Rows<'a>)>
-    ensures { MatchOption result (lent (Rows.Names front.entry rest.entry) ≡ [])
-        (λ first. lent (Rows.Names front.entry rest.entry) ≡ row first.0.now first.1.now ∷ lent first.2) }
+    ensures { MatchOption result (row_list (Rows.Names front.entry rest.entry) ≡ [])
+        (λ first. row_list (Rows.Names front.entry rest.entry) ≡ row first.0.now first.1.now ∷ row_list first.2) }
 {
-    if let Some((first, behind)) = front.split_first() {
+    if let Some((first, following)) = front.split_first() {
         return Some((
             first.name.as_slice(),
             first.name.as_slice(),
-            Rows::Names(behind, rest),
+            Rows::Names(following, rest),
         ));
     }
-    let (first, behind) = rest.split_first()?;
+    let (first, following) = rest.split_first()?;
     Some((
         first.name.as_slice(),
         first.name.as_slice(),
-        Rows::Names(&[], behind),
+        Rows::Names(&[], following),
     ))
 }
 
 /// One row without a name where there is a value, and else none.
 pub(crate) fn optional(value: &Option<Bytes>) -> Rows<'_>
-    ensures { lent result ≡ optional value.now }
+    ensures { row_list result ≡ optional value.now }
 {
     match value {
         Some(value) => Rows::One(value.as_slice()),

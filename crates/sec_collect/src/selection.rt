@@ -1,6 +1,6 @@
 ghost use Rattle.std.specs.Prelude.{◌≡◌, ◌++◌, ◌||◌, [], length, map, filter, IfOk, OnOk};
 ghost use Rattle.std.specs.List.{list_any, zip};
-ghost use Rattle.sec_collect.specs.Lent.{lent};
+ghost use Rattle.sec_collect.specs.RowList.{row_list};
 ghost use Rattle.sec_collect.specs.Selection.{excludes, is_matched, is_selected, keeps, names, removes, same_variable, selection, value_row, values_of};
 
 use crate::{RowRef, Rows, Vars};
@@ -29,11 +29,11 @@ pub fn select<M: Selector>(
     let mut out = Seq::new(alloc);
     let mut rest = patterns.as_slice();
     for target in targets.as_slice() {
-        let Some((pattern, behind)) = rest.split_first() else {
+        let Some((pattern, following)) = rest.split_first() else {
             return Ok(out);
         };
         add_values(alloc, vars, &query, removed, target, pattern, &mut out)?;
-        rest = behind;
+        rest = following;
     }
     Ok(out)
 }
@@ -65,7 +65,7 @@ impl<'a, M: Selector> TargetQuery<'a, M> {
     ) -> Result<u64, NoMemory>
         ensures { IfOk result (λ n. n ≡ length (filter
             (λ r. keeps M.meaning (zip self.now.targets.now self.now.patterns.now) [] (target.now, pattern.now) r.name)
-            (lent rows.entry))) }
+            (row_list rows.entry))) }
     {
         count(self, &[], target, pattern, rows)
     }
@@ -101,15 +101,15 @@ fn count<M: Selector>(
     ensures { IfOk result (λ n. n ≡ length (filter
         (λ r. keeps M.meaning (zip query.now.targets.now query.now.patterns.now) removed.now
         (target.now, pattern.now) r.name)
-        (lent rows.entry))) }
+        (row_list rows.entry))) }
 {
     let mut count: u64 = 0;
     let mut rest = rows;
-    while let Some((name, _, behind)) = rest.split_first() {
+    while let Some((name, _, following)) = rest.split_first() {
         if keeps(query, removed, target, pattern, name)? {
             count = count.checked_add(1).ok_or(NoMemory)?;
         }
-        rest = behind;
+        rest = following;
     }
     Ok(count)
 }
@@ -151,14 +151,14 @@ fn add_rows<M: Selector>(
     ensures { OnOk result (out.new ≡ out.old ++ map (value_row target.now.var) (filter
         (λ r. keeps M.meaning (zip query.now.targets.now query.now.patterns.now) removed.now
         (target.now, pattern.now) r.name)
-        (lent rows.entry))) }
+        (row_list rows.entry))) }
 {
     let mut rest = rows;
-    while let Some((name, value, behind)) = rest.split_first() {
+    while let Some((name, value, following)) = rest.split_first() {
         if keeps(query, removed, target, pattern, name)? {
             out.push(RowRef::of_row(alloc, target.var, name, value)?)?;
         }
-        rest = behind;
+        rest = following;
     }
     Ok(())
 }
@@ -196,13 +196,13 @@ fn is_excluded<M: Selector>(
 {
     let mut rest = patterns;
     for target in targets {
-        let Some((pattern, behind)) = rest.split_first() else {
+        let Some((pattern, following)) = rest.split_first() else {
             return Ok(false);
         };
         if excludes(target, pattern, var, name)? {
             return Ok(true);
         }
-        rest = behind;
+        rest = following;
     }
     Ok(false)
 }

@@ -1,6 +1,7 @@
 ghost use Rattle.std.specs.Prelude.{◌≡◌, ◌++◌, ◌<◌, ◌≤◌, ◌+◌, [], List, ℕ, true, length, take, drop, map, slice_index_or, nat_le, IfOk, OnOk, OnErr};
 ghost use Rattle.std.specs.Char.{to_ascii_lowercase};
 ghost use Rattle.web_parts.specs.declared.row.NameValue.{NameValue as TheRow};
+ghost use Rattle.sec_collect.specs.declared.variables.TheConstants.{VARIABLES_LIMIT};
 ghost use Rattle.sec_collect.specs.Row.{is_named, size_of};
 ghost use Rattle.sec_collect.specs.Variables.{ArePut, put, put_within, without};
 
@@ -12,7 +13,7 @@ use waf_plain::{Bytes, NoMemory, Seq};
 use web_parts::NameValue;
 
 // How many bytes the names and values of a transaction's variables may have together.
-const LIMIT: u128 = 65536;
+const VARIABLES_LIMIT: u128 = 65536;
 
 /// The variables of TX, in the order in which they were first put. Nothing but puts and deletions makes
 /// them.
@@ -97,9 +98,10 @@ fn without(rows: Seq<NameValue>, name: &[u8]) -> Seq<NameValue>
 
 // Whether the other variables leave room for this one.
 fn fits(rows: &[NameValue], name: &[u8], value: &[u8]) -> bool
-    ensures { result ≡ nat_le (size_of (without name.now rows.now) + (length name.now + length value.now)) 65536 }
+    ensures { result
+        ≡ nat_le (size_of (without name.now rows.now) + (length name.now + length value.now)) VARIABLES_LIMIT }
 {
-    others_size(rows, name) + (name.len() as u128 + value.len() as u128) <= LIMIT
+    others_size(rows, name) + (name.len() as u128 + value.len() as u128) <= VARIABLES_LIMIT
 }
 
 fn put(alloc: Global, rows: &mut Seq<NameValue>, name: &[u8], value: &[u8]) -> Result<(), NoMemory>

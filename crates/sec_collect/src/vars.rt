@@ -2,9 +2,9 @@ ghost use Rattle.std.specs.Prelude.{◌≡◌, ◌++◌, ◌∷◌, [], cond, tr
 ghost use Rattle.std.specs.Option.{option_map};
 ghost use Rattle.sec_ast.specs.Variable.{is_collection};
 ghost use Rattle.sec_collect.specs.Body.{chosen_processor, flag_text, is_longer, left_of, posted, processor_of};
-ghost use Rattle.sec_collect.specs.Held.{of_request};
+ghost use Rattle.sec_collect.specs.TransactionView.{of_request};
 ghost use Rattle.sec_collect.specs.Kept.{kept_rows, response_rows};
-ghost use Rattle.sec_collect.specs.Lent.{lent};
+ghost use Rattle.sec_collect.specs.RowList.{row_list};
 ghost use Rattle.sec_collect.specs.Response.{response_body};
 ghost use Rattle.sec_collect.specs.Row.{optional, row, single, value_named};
 ghost use Rattle.sec_collect.specs.Captures.{captured_rows};
@@ -25,7 +25,7 @@ use std::marker::Model;
 use waf_plain::{Bytes, NoMemory, Seq};
 use web_parts::{NameValue, Request, Response};
 
-/// What the variables of a transaction are made from, with their rows kept ready: to lend the rows of a
+/// What the variables of a transaction are made from, with their rows kept ready: to borrow the rows of a
 /// variable takes neither memory nor a pass over them.
 #[derive(Drop)]
 pub struct Vars {
@@ -41,13 +41,13 @@ pub struct Vars {
 }
 
 impl Model for Vars {
-    ghost use Rattle.sec_collect.specs.Held.{Held};
+    ghost use Rattle.sec_collect.specs.TransactionView.{TransactionView};
 
-    ghost Value = { Held };
+    ghost Value = { TransactionView };
 
-    ghost use Rattle.sec_collect.specs.Kept.{held_by, AreKept};
+    ghost use Rattle.sec_collect.specs.Kept.{vars_view, AreKept};
 
-    ghost view = { held_by };
+    ghost view = { vars_view };
 
     ghost invariant = { AreKept };
 }
@@ -84,7 +84,7 @@ impl Vars {
 
     /// The rows of a variable, in order.
     pub fn rows(&self, var: Var) -> Rows<'_>
-        ensures { lent result ≡ rows_of var self.now }
+        ensures { row_list result ≡ rows_of var self.now }
     {
         if var.is_collection() {
             self.collection_rows(var)
@@ -96,7 +96,7 @@ impl Vars {
     #[tactic(auto, unfolding(crate::specs::Rows::rows_of))]
     fn single_rows(&self, var: Var) -> Rows<'_>
         requires { is_collection var ≡ false }
-        ensures { lent result ≡ rows_of var self.now }
+        ensures { row_list result ≡ rows_of var self.now }
     {
         match var {
             Var::RemoteAddr => Rows::One(self.kept.request.addresses.source.as_slice()),
@@ -136,7 +136,7 @@ impl Vars {
     #[tactic(auto, unfolding(crate::specs::Rows::rows_of))]
     fn collection_rows(&self, var: Var) -> Rows<'_>
         requires { is_collection var ≡ true }
-        ensures { lent result ≡ rows_of var self.now }
+        ensures { row_list result ≡ rows_of var self.now }
     {
         let query = self.kept.request.query_arguments.as_slice();
         let posted = self.kept.body.posted.as_slice();
@@ -164,7 +164,7 @@ impl Vars {
     }
 
     fn body_rows(&self) -> Rows<'_>
-        ensures { lent result ≡ optional (option_map (left_of self.now.request.body) self.now.body) }
+        ensures { row_list result ≡ optional (option_map (left_of self.now.request.body) self.now.body) }
     {
         match self.body {
             Some(opened) => Rows::One(left_of(self.request.body.as_slice(), opened)),
@@ -186,7 +186,7 @@ impl Vars {
     }
 
     fn response_body_rows(&self) -> Rows<'_>
-        ensures { lent result ≡ response_body self.now.response }
+        ensures { row_list result ≡ response_body self.now.response }
     {
         match &self.response {
             Some(added) => body_of(added),
@@ -195,7 +195,7 @@ impl Vars {
     }
 
     fn matched_value_rows(&self) -> Rows<'_>
-        ensures { lent result ≡ optional (option_map (λ r. r.value) (last_matched self.now)) }
+        ensures { row_list result ≡ optional (option_map (λ r. r.value) (last_matched self.now)) }
     {
         match self.matched.as_slice().last() {
             Some(row) => Rows::One(row.value.as_slice()),
@@ -204,7 +204,7 @@ impl Vars {
     }
 
     fn matched_name_rows(&self) -> Rows<'_>
-        ensures { lent result ≡ optional (option_map (λ r. r.name) (last_matched self.now)) }
+        ensures { row_list result ≡ optional (option_map (λ r. r.name) (last_matched self.now)) }
     {
         match self.matched.as_slice().last() {
             Some(row) => Rows::One(row.name.as_slice()),
@@ -364,7 +364,7 @@ impl Vars {
 
 // The row of a response's body, where it is read.
 fn body_of(added: &AddedResponse) -> Rows<'_>
-    ensures { lent result ≡ cond added.now.with_body (single added.now.response.body) [] }
+    ensures { row_list result ≡ cond added.now.with_body (single added.now.response.body) [] }
 {
     if added.with_body {
         return Rows::One(added.response.body.as_slice());

@@ -4,7 +4,7 @@ use Rattle.std.specs.List.{flat_map, zip}
 use Rattle.sec_ast.specs.declared.link.Link.{Link}
 use Rattle.sec_collect.specs.declared.row_ref.RowRef.{RowRef}
 use Rattle.sec_collect.specs.Expansion.{expansion}
-use Rattle.sec_collect.specs.Held.{Held}
+use Rattle.sec_collect.specs.TransactionView.{TransactionView}
 use Rattle.sec_collect.specs.Selection.{selection}
 use Rattle.sec_eval.specs.declared.matching.BorrowedRow.{BorrowedRow}
 use Rattle.sec_eval.specs.declared.matching.Question.{Question}
@@ -19,7 +19,7 @@ row_of r = record { var = r.var; name = r.name.now; value = r.value.now; counted
 abbrev pub matched_of : Question → List RowRef → List Matched
 matched_of q rows = flat_map (λ r. listed (match_of q.link.now q.argument.now r)) rows
 
-abbrev pub matches_in : Held → Link → List Matched
+abbrev pub matches_in : TransactionView → Link → List Matched
 matches_in s link =
     flat_map (λ r. listed (match_of link (expansion s link.op.text) r))
     (selection is_matched (zip link.targets (patterns_of link.targets)) [] s)

@@ -1,7 +1,7 @@
 //! Runs a phase of rules over the state of a transaction, which it changes in place.
 //!
-//! `run_phase(alloc, &rules, 1, &mut state, &mut steps)` says whether phase 1 interrupts. The definition
-//! is `phase` of `sec_meaning`: contracts see a `State` as that definition's own state.
+//! `run_phase(alloc, &rules, phase_number::LOGGING, &mut state, &mut steps)` runs the last phase. The
+//! definition is `phase` of `sec_meaning`: contracts see a `State` as that definition's own state.
 #![tactic(auto)]
 
 mod effect;

@@ -1,6 +1,6 @@
 ghost use Rattle.std.specs.Prelude.{◌≡◌, ◌++◌, ◌∷◌, [], filter, length, map, IfOk, OnOk};
 ghost use Rattle.std.specs.List.{zip};
-ghost use Rattle.sec_collect.specs.Lent.{lent};
+ghost use Rattle.sec_collect.specs.RowList.{row_list};
 ghost use Rattle.sec_collect.specs.Selection.{count_row, full_name, keeps, selection, value_row, values_of};
 ghost use Rattle.sec_compile.specs.Links.{built_link};
 ghost use Rattle.sec_eval.specs.Matching.{matched_of, matches_in, row_of};
@@ -142,7 +142,7 @@ fn add_rows(
     ensures { OnOk result (out.new ≡ out.old ++ matched_of question.now (map (value_row target.now.var) (filter
         (λ r. keeps is_matched (zip query.now.targets.now query.now.patterns.now) []
         (target.now, pattern.now) r.name)
-        (lent rows.entry)))) }
+        (row_list rows.entry)))) }
 {
     let mut rest = rows;
     while let Some((name, value, following)) = rest.split_first() {

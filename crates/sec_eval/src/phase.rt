@@ -11,6 +11,7 @@ use crate::State;
 use crate::effect::effect;
 use sec_ast::{Item, Listing, Rule, Verdict};
 use sec_compile::{BuiltLink, Ruleset};
+use sec_meaning::phase_number::{LOGGING, REQUEST_BODY, RESPONSE_HEADERS};
 use sec_meaning::{After, Passing, RuleFlow, Transaction, at_marker, is_off, is_on, too_large};
 use std::alloc::Global;
 use std::sync::ledger::Ledger;
@@ -33,11 +34,11 @@ fn follow(flow: RuleFlow, state: &mut State) -> Result<After, NoMemory>
         RuleFlow::SkipTo(label) => Ok(After::GoOn(Passing::Until(label))),
         RuleFlow::EndPhase => Ok(After::End(None)),
         RuleFlow::EndTo3 => {
-            state.set_next_phase(3);
+            state.set_next_phase(RESPONSE_HEADERS);
             Ok(After::End(None))
         }
         RuleFlow::EndTo5 => {
-            state.set_next_phase(5);
+            state.set_next_phase(LOGGING);
             Ok(After::End(None))
         }
         RuleFlow::Interrupt(verdict) => {
@@ -177,7 +178,7 @@ fn is_rejected(listing: &Listing, state: &State) -> bool
     listing.limit_reject && is_on(state.engine()) && state.vars().is_body_over_limit()
 }
 
-// Phase 2 with the body opened.
+// The phase of the request's body, once that is opened.
 fn with_body<L: Ledger>(
     alloc: Global,
     rules: &Ruleset,
@@ -193,7 +194,7 @@ fn with_body<L: Ledger>(
     }
     walk(
         alloc,
-        2,
+        REQUEST_BODY,
         rules.listing().items.as_slice(),
         rules.built(),
         state,
@@ -218,7 +219,7 @@ pub fn run_phase<L: Ledger>(
     if number < state.next_phase() {
         return Ok(Flow::Goes);
     }
-    if number == 2 {
+    if number == REQUEST_BODY {
         state.open_body(alloc, rules.listing())?;
         return with_body(alloc, rules, state, steps);
     }

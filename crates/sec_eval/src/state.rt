@@ -7,6 +7,7 @@ use crate::text::expanded;
 use sec_ast::{Ctl, Engine, Listing, LogLine, Macro, Rule, Verdict};
 use sec_collect::Vars;
 use sec_compile::Ruleset;
+use sec_meaning::phase_number::REQUEST_HEADERS;
 use sec_meaning::{Removed, Text, Transaction, is_named_by};
 use std::alloc::Global;
 use std::marker::Model;
@@ -38,7 +39,7 @@ impl Model for State {
 }
 
 impl State {
-    /// The state before phase 1.
+    /// The state before the first phase.
     pub fn start(alloc: Global, rules: &Ruleset, request: Request) -> Result<State, NoMemory>
         ensures { IfOk result (λ state. state ≡ start rules.now request) }
     {
@@ -50,13 +51,13 @@ impl State {
             request_body: listing.request_body,
             response_body: listing.response_body,
             removed_rules: Seq::new(alloc),
-            next_phase: 1,
+            next_phase: REQUEST_HEADERS,
             verdict: None,
             lines: Seq::new(alloc),
         })
     }
 
-    /// Adds the response, before phase 3. Its body is read where that is on by now.
+    /// Adds the response, before its phases. Its body is read where that is on by now.
     pub fn answer(&mut self, alloc: Global, response: Response) -> Result<(), NoMemory>
         ensures { OnOk result (self.new ≡ answered response self.old) }
     {
@@ -112,7 +113,7 @@ impl State {
         self.verdict = Some(verdict);
     }
 
-    /// Opens the request's body where it is read, before the rules of phase 2.
+    /// Opens the request's body where it is read, before the rules of its phase.
     pub(crate) fn open_body(&mut self, alloc: Global, listing: &Listing) -> Result<(), NoMemory>
         ensures { OnOk result (self.new ≡ opened listing.now self.old) }
     {

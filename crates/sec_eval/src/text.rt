@@ -4,14 +4,11 @@ ghost use Rattle.sec_meaning.specs.Text.{text_of};
 ghost use Rattle.sec_transforms.specs.Apply.{chained};
 
 use sec_ast::{Macro, Part, Transform};
-use sec_collect::{Vars, expand};
+use sec_collect::{EXPANSION_LIMIT, Vars, expand};
 use sec_meaning::Text;
 use sec_transforms::apply_chain;
 use std::alloc::Global;
 use waf_plain::{NoMemory, Seq};
-
-// How many bytes of an expanded macro are taken.
-const LIMIT: usize = 65536;
 
 /// A macro with values in the places of its references. One that is nothing but text is borrowed.
 pub(crate) fn expanded<'a>(
@@ -23,7 +20,7 @@ pub(crate) fn expanded<'a>(
 {
     match text.as_slice() {
         [] => Ok(Text::Borrowed(&[])),
-        [Part::Text(bytes)] => Ok(Text::Borrowed(first_bytes(bytes.as_slice(), LIMIT))),
+        [Part::Text(bytes)] => Ok(Text::Borrowed(first_bytes(bytes.as_slice(), EXPANSION_LIMIT))),
         _ => Ok(Text::Owned(expand(alloc, vars, text)?)),
     }
 }

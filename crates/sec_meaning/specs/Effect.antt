@@ -9,14 +9,16 @@ use Rattle.sec_ast.specs.declared.verdict.VerdictAct.{VerdictAct}
 use Rattle.sec_ast.specs.declared.verdict.VerdictAct.TheVariants as acts
 use Rattle.sec_ast.specs.declared.verdict.LogLine.{LogLine}
 use Rattle.sec_collect.specs.Expansion.{expansion}
-use Rattle.sec_collect.specs.Held.{Held}
+use Rattle.sec_collect.specs.TransactionView.{TransactionView}
 use Rattle.sec_meaning.specs.declared.state.RuleFlow.{RuleFlow}
 use Rattle.sec_meaning.specs.declared.state.RuleFlow.TheVariants.{Next, Skip, SkipTo, EndPhase, EndTo3, EndTo5, Interrupt}
 use Rattle.sec_meaning.specs.declared.state.PlainState.{PlainState}
+use Rattle.sec_meaning.specs.declared.phase_number.TheConstants.{REQUEST_BODY, RESPONSE_BODY}
+use Rattle.sec_meaning.specs.declared.status.TheConstants.{MOVED_PERMANENTLY, FOUND, SEE_OTHER, TEMPORARY_REDIRECT, PERMANENT_REDIRECT, FORBIDDEN}
 use Rattle.sec_meaning.specs.State.{view_of}
 use Rattle.sec_meaning.specs.Links.{after_links}
 
-abbrev pub line_of : Rule → Held → LogLine
+abbrev pub line_of : Rule → TransactionView → LogLine
 line_of r s = record { rule = r.id; msg = expansion s r.msg; detail = expansion s r.logdata }
 
 abbrev pub logged : Rule → PlainState → PlainState
@@ -27,16 +29,17 @@ abbrev pub skip_of : Option (List ℕ) → ℕ → RuleFlow
 skip_of (Some label) n = SkipTo label
 skip_of None n = if nat_eq n 0 then Next else Skip n
 
--- 403 where a rule that denies has no status
+-- Forbidden where a rule that denies has no status (RFC 9110, 15.5.4)
 abbrev pub denial_status : ℕ → ℕ
-denial_status status = if nat_eq status 0 then 403 else status
+denial_status status = if nat_eq status 0 then FORBIDDEN else status
 
--- 302 where its status is none of a redirection (RFC 9110, 15.4)
+-- Found where its status is none of a redirection (RFC 9110, 15.4)
 abbrev pub redirect_status : ℕ → ℕ
 redirect_status status =
-    if nat_eq status 301 || nat_eq status 302 || nat_eq status 303 || nat_eq status 307 || nat_eq status 308
+    if nat_eq status MOVED_PERMANENTLY || nat_eq status FOUND || nat_eq status SEE_OTHER
+    || nat_eq status TEMPORARY_REDIRECT || nat_eq status PERMANENT_REDIRECT
     then status
-    else 302
+    else FOUND
 
 abbrev pub interruption : Rule → VerdictAct → ℕ → RuleFlow
 interruption r act status = Interrupt (record { rule = r.id; act = act; status = status })
@@ -50,16 +53,18 @@ disruption (disrupts.Redirect location) r s =
     interruption r (acts.Redirect (expansion (view_of s) location)) (redirect_status r.status)
 disruption disrupts.Allow r s = EndTo5
 disruption disrupts.AllowPhase r s = EndPhase
-disruption disrupts.AllowRequest r s = if nat_le r.phase 2 then EndTo3 else EndPhase
+disruption disrupts.AllowRequest r s = if nat_le r.phase REQUEST_BODY then EndTo3 else EndPhase
 
 abbrev pub is_on : Engine → Bool
 is_on engines.On = true
 is_on engines.Off = false
 is_on engines.DetectionOnly = false
 
--- a disruptive action acts where the engine is on, and not in phase 5
+-- a disruptive action acts where the engine is on, and not in the logging phase
 abbrev pub flow_of : Rule → PlainState → RuleFlow
-flow_of r s = if is_on s.engine && nat_le r.phase 4 then disruption r.disrupt r s else skip_of r.skip_after r.skip
+flow_of r s =
+    if is_on s.engine && nat_le r.phase RESPONSE_BODY then disruption r.disrupt r s
+    else skip_of r.skip_after r.skip
 
 abbrev pub matched_effect : Rule → Bool × PlainState → PlainState × RuleFlow
 matched_effect r x = if x.0 then (logged r x.1, flow_of r (logged r x.1)) else (x.1, Next)

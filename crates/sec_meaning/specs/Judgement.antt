@@ -5,11 +5,12 @@ use Rattle.sec_ast.specs.declared.settings.Processor.TheVariants as processors
 use Rattle.sec_ast.specs.declared.verdict.Verdict.{Verdict}
 use Rattle.web_parts.specs.declared.transaction.Request.{Request}
 use Rattle.web_parts.specs.declared.transaction.Response.{Response}
+use Rattle.sec_meaning.specs.declared.phase_number.TheConstants.{REQUEST_HEADERS, REQUEST_BODY, RESPONSE_HEADERS, RESPONSE_BODY, LOGGING}
 use Rattle.sec_meaning.specs.declared.state.Judged.{Judged}
 use Rattle.sec_meaning.specs.declared.state.PlainState.{PlainState}
 use Rattle.sec_meaning.specs.Phase.{Run, ended, phase}
 
--- the state before phase 1
+-- the state before the first phase
 abbrev pub start : Listing → Request → PlainState
 start listing request = record {
   engine = listing.engine;
@@ -23,12 +24,12 @@ start listing request = record {
   captured = [];
   matched = [];
   removed_rules = [];
-  next_phase = 1;
+  next_phase = REQUEST_HEADERS;
   verdict = None;
   lines = [];
 }
 
--- the state before phase 3. The response's body is read where that is on by now
+-- the state with a response. The response's body is read where that is on by now
 abbrev pub answered : Response → PlainState → PlainState
 answered response s = record s { response = Some (record { response = response; with_body = s.response_body }) }
 
@@ -41,19 +42,20 @@ abbrev pub two_phases : Listing → ℕ → ℕ → PlainState → Run
 two_phases listing p q s =
     unless_denied (phase listing p s).verdict (phase listing p s) (phase listing q (phase listing p s).state)
 
--- phases 1 and 2 over the request
+-- the phases of the request
 abbrev pub request_part : Listing → Request → Run
-request_part listing request = two_phases listing 1 2 (start listing request)
+request_part listing request = two_phases listing REQUEST_HEADERS REQUEST_BODY (start listing request)
 
--- phases 3 and 4, where there is a response and the request was not interrupted
+-- the phases of the response, where there is one and the request was not interrupted
 abbrev pub response_part : Listing → Option Response → Run → Run
 response_part listing None one = ended one.state
 response_part listing (Some response) one =
-    unless_denied one.verdict (ended one.state) (two_phases listing 3 4 (answered response one.state))
+    unless_denied one.verdict (ended one.state)
+    (two_phases listing RESPONSE_HEADERS RESPONSE_BODY (answered response one.state))
 
--- the state after phase 5, which runs last in every case
+-- the state after the logging phase, which runs last in every case
 abbrev pub last_part : Listing → Run → PlainState
-last_part listing r = (phase listing 5 r.state).state
+last_part listing r = (phase listing LOGGING r.state).state
 
 abbrev pub judge : Listing → Request → Option Response → Judged
 judge listing request response =

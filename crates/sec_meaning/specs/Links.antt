@@ -12,7 +12,7 @@ use Rattle.sec_ast.specs.declared.link.Link.{Link}
 use Rattle.web_parts.specs.declared.row.NameValue.{NameValue}
 use Rattle.sec_collect.specs.Captures.{captured_rows}
 use Rattle.sec_collect.specs.Expansion.{expansion}
-use Rattle.sec_collect.specs.Held.{Held}
+use Rattle.sec_collect.specs.TransactionView.{TransactionView}
 use Rattle.sec_collect.specs.Row.{row, value_named}
 use Rattle.sec_collect.specs.Variables.{put_within, without}
 use Rattle.sec_ops.specs.Number.{number}
@@ -27,11 +27,11 @@ abbrev pub bounded : ℤ → ℤ
 bounded z = saturate_to_bits 63 z
 
 -- the number of a variable's value, 0 where there is none
-abbrev pub old_number : List ℕ → Held → ℤ
+abbrev pub old_number : List ℕ → TransactionView → ℤ
 old_number name s = number (value_named name s.tx)
 
 -- the variables once one of this name, which is not empty, is changed
-abbrev pub changed : Change → List ℕ → Held → List NameValue
+abbrev pub changed : Change → List ℕ → TransactionView → List NameValue
 changed (changes.Put value) name s = put_within name (expansion s value) s.tx
 changed (changes.Add value) name s =
     put_within name (signed_decimal (bounded (old_number name s +ℤ number (expansion s value)))) s.tx
@@ -39,7 +39,7 @@ changed (changes.Sub value) name s =
     put_within name (signed_decimal (bounded (old_number name s -ℤ number (expansion s value)))) s.tx
 changed changes.Delete name s = without name s.tx
 
-abbrev pub variables_after : Change → List ℕ → Held → List NameValue
+abbrev pub variables_after : Change → List ℕ → TransactionView → List NameValue
 variables_after change [] s = s.tx
 variables_after change (b ∷ name) s = changed change (b ∷ name) s
 

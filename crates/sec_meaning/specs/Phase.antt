@@ -11,6 +11,7 @@ use Rattle.sec_ast.specs.declared.settings.Engine.TheVariants as engines
 use Rattle.sec_ast.specs.declared.verdict.Verdict.{Verdict}
 use Rattle.sec_ast.specs.declared.verdict.VerdictAct.TheVariants as acts
 use Rattle.sec_collect.specs.Body.{chosen_processor, is_longer}
+use Rattle.sec_meaning.specs.declared.phase_number.TheConstants.{REQUEST_BODY, RESPONSE_HEADERS, LOGGING}
 use Rattle.sec_meaning.specs.declared.state.After.{After}
 use Rattle.sec_meaning.specs.declared.state.After.TheVariants.{GoOn, End}
 use Rattle.sec_meaning.specs.declared.state.RuleFlow.{RuleFlow}
@@ -20,6 +21,7 @@ use Rattle.sec_meaning.specs.declared.state.Passing.TheVariants.{Looking, Skippi
 use Rattle.sec_meaning.specs.declared.state.PlainState.{PlainState}
 use Rattle.sec_meaning.specs.declared.state.Removed.{Removed}
 use Rattle.sec_meaning.specs.declared.state.Removed.TheVariants as removed
+use Rattle.sec_meaning.specs.declared.status.TheConstants.{CONTENT_TOO_LARGE}
 use Rattle.sec_meaning.specs.State.{view_of}
 use Rattle.sec_meaning.specs.Effect.{effect, is_on}
 
@@ -57,8 +59,8 @@ follow s Next rest = rest Looking s
 follow s (Skip n) rest = rest (Skipping n) s
 follow s (SkipTo label) rest = rest (Until label) s
 follow s EndPhase rest = ended s
-follow s EndTo3 rest = ended (record s { next_phase = 3 })
-follow s EndTo5 rest = ended (record s { next_phase = 5 })
+follow s EndTo3 rest = ended (record s { next_phase = RESPONSE_HEADERS })
+follow s EndTo5 rest = ended (record s { next_phase = LOGGING })
 follow s (Interrupt v) rest = interrupted v s
 
 -- at a rule of the phase that is not skipped
@@ -100,17 +102,18 @@ is_rejected listing s = is_longer s.request.body s.body && (listing.limit_reject
 
 -- Content Too Large (RFC 9110, 15.5.14), by no rule
 abbrev pub too_large : Verdict
-too_large = record { rule = 0; act = acts.Deny; status = 413 }
+too_large = record { rule = 0; act = acts.Deny; status = CONTENT_TOO_LARGE }
 
--- phase 2 with its body opened
+-- the phase of the request's body, once that is opened
 abbrev pub with_body : Listing → PlainState → Run
-with_body listing s = if is_rejected listing s then interrupted too_large s else walk 2 listing.items Looking s
+with_body listing s =
+    if is_rejected listing s then interrupted too_large s else walk REQUEST_BODY listing.items Looking s
 
 -- a phase. One that was jumped over looks at nothing and changes nothing
 abbrev pub phase : Listing → ℕ → PlainState → Run
 phase listing p s =
     if nat_lt p s.next_phase then ended s else
-    if nat_eq p 2 then with_body listing (opened listing s) else
+    if nat_eq p REQUEST_BODY then with_body listing (opened listing s) else
     walk p listing.items Looking s
 
 -- what a call says about the rest of a phase

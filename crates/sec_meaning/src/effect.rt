@@ -5,6 +5,10 @@ ghost use Rattle.sec_meaning.specs.Links.{after_links};
 ghost use Rattle.sec_meaning.specs.State.{view_of};
 
 use crate::links::after_links;
+use crate::phase_number::{REQUEST_BODY, RESPONSE_BODY};
+use crate::status::{
+    FORBIDDEN, FOUND, MOVED_PERMANENTLY, PERMANENT_REDIRECT, SEE_OTHER, TEMPORARY_REDIRECT,
+};
 use crate::{PlainState, RuleFlow, Transaction};
 use sec_ast::{Disrupt, Engine, LogLine, Macro, Rule, Verdict, VerdictAct};
 use std::alloc::Global;
@@ -49,17 +53,22 @@ fn skip_of(rule: &Rule) -> Result<RuleFlow, NoMemory>
 fn denial_status(status: u32) -> u32
     ensures { result ≡ denial_status status }
 {
-    if status == 0 { 403 } else { status }
+    if status == 0 { FORBIDDEN } else { status }
 }
 
 // The status that a rule redirects with, for the one that it names (RFC 9110, 15.4).
 fn redirect_status(status: u32) -> u32
     ensures { result ≡ redirect_status status }
 {
-    if status == 301 || status == 302 || status == 303 || status == 307 || status == 308 {
+    if status == MOVED_PERMANENTLY
+        || status == FOUND
+        || status == SEE_OTHER
+        || status == TEMPORARY_REDIRECT
+        || status == PERMANENT_REDIRECT
+    {
         status
     } else {
-        302
+        FOUND
     }
 }
 
@@ -102,7 +111,7 @@ fn disruption<S: Transaction>(alloc: Global, rule: &Rule, state: &S) -> Result<R
         Disrupt::Redirect(location) => redirect(alloc, rule, location, state),
         Disrupt::Allow => Ok(RuleFlow::EndTo5),
         Disrupt::AllowPhase => Ok(RuleFlow::EndPhase),
-        Disrupt::AllowRequest => Ok(if rule.phase <= 2 {
+        Disrupt::AllowRequest => Ok(if rule.phase <= REQUEST_BODY {
             RuleFlow::EndTo3
         } else {
             RuleFlow::EndPhase
@@ -124,7 +133,7 @@ pub fn is_on(engine: Engine) -> bool
 fn flow_of<S: Transaction>(alloc: Global, rule: &Rule, state: &S) -> Result<RuleFlow, NoMemory>
     ensures { IfOk result (λ flow. flow ≡ flow_of rule.now (S.seen state.now)) }
 {
-    if is_on(state.engine()) && rule.phase <= 4 {
+    if is_on(state.engine()) && rule.phase <= RESPONSE_BODY {
         disruption(alloc, rule, state)
     } else {
         skip_of(rule)

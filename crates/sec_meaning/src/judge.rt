@@ -5,6 +5,9 @@ ghost use Rattle.sec_meaning.specs.Judgement.{answered, judge, response_part, st
 ghost use Rattle.sec_meaning.specs.Phase.{phase};
 
 use crate::phase::run;
+use crate::phase_number::{
+    LOGGING, REQUEST_BODY, REQUEST_HEADERS, RESPONSE_BODY, RESPONSE_HEADERS,
+};
 use crate::{Judged, PlainFault, PlainState};
 use sec_ast::{Listing, Processor, Verdict};
 use sec_collect::{AddedResponse, Captures, Variables};
@@ -15,7 +18,7 @@ use waf_plain::{NoMemory, Seq};
 use web_parts::{Request, Response};
 
 impl PlainState {
-    /// The state before phase 1.
+    /// The state before the first phase.
     pub fn start(
         alloc: Global,
         listing: &Listing,
@@ -24,7 +27,13 @@ impl PlainState {
         ensures { IfOk result (λ state. state ≡ start listing.now request.now) }
     {
         let request = request.clone()?;
-        Ok(PlainState {
+        Ok(PlainState::with_request(alloc, listing, request))
+    }
+
+    fn with_request(alloc: Global, listing: &Listing, request: Request) -> PlainState
+        ensures { result ≡ start listing.now request }
+    {
+        PlainState {
             engine: listing.engine,
             request_body: listing.request_body,
             response_body: listing.response_body,
@@ -36,13 +45,13 @@ impl PlainState {
             captured: Captures::new(alloc),
             matched: Seq::new(alloc),
             removed_rules: Seq::new(alloc),
-            next_phase: 1,
+            next_phase: REQUEST_HEADERS,
             verdict: None,
             lines: Seq::new(alloc),
-        })
+        }
     }
 
-    /// This state with the response's rows: the state before phase 3. Whether its body is read is a
+    /// This state with the response's rows: the state before its phases. Whether its body is read is a
     /// setting of the state by then, so the listing plays no part.
     pub fn answered(&self, _listing: &Listing, response: &Response) -> Result<PlainState, NoMemory>
         ensures { IfOk result (λ state. state ≡ answered response.now self.now) }
@@ -103,7 +112,7 @@ fn response_part(
             Some(_) => Ok(None),
             None => {
                 state.add_response(response)?;
-                two_phases(alloc, listing, 3, 4, state)
+                two_phases(alloc, listing, RESPONSE_HEADERS, RESPONSE_BODY, state)
             }
         },
     }
@@ -123,7 +132,7 @@ fn judged(
     judged
 }
 
-// The judgement from the state before phase 1, whose lines are taken out.
+// The judgement from the state before the first phase, whose lines are taken out.
 fn judged_from(
     alloc: Global,
     listing: &Listing,
@@ -134,9 +143,9 @@ fn judged_from(
     requires { state.old ≡ start listing.now request.now }
     ensures { IfOk result (λ judged. judged ≡ judge listing.now request.now (option_copied response.entry)) }
 {
-    let first = two_phases(alloc, listing, 1, 2, state)?;
+    let first = two_phases(alloc, listing, REQUEST_HEADERS, REQUEST_BODY, state)?;
     let second = response_part(alloc, listing, response, &first, state)?;
-    run(alloc, listing, 5, state)?;
+    run(alloc, listing, LOGGING, state)?;
     let lines = mem::replace(&mut state.lines, Seq::new(alloc));
     Ok(Judged {
         first,

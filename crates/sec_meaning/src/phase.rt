@@ -10,6 +10,8 @@ ghost use Rattle.sec_meaning.specs.Effect.{effect};
 ghost use Rattle.sec_meaning.specs.Phase.{Run, EndsAs, after, at_marker, at_rule, follow, is_named_by, is_off, is_rejected, is_removed, look, opened, phase, too_large, walk, with_body};
 
 use crate::effect::{effect, is_on};
+use crate::phase_number::{LOGGING, REQUEST_BODY, RESPONSE_HEADERS};
+use crate::status::CONTENT_TOO_LARGE;
 use crate::values::chosen_processor;
 use crate::{After, Passing, PlainFault, PlainState, Removed, RuleFlow};
 use sec_ast::{Engine, Item, Listing, Rule, Verdict, VerdictAct};
@@ -65,11 +67,11 @@ fn follow(flow: RuleFlow, state: &mut PlainState) -> Result<After, NoMemory>
         RuleFlow::SkipTo(label) => Ok(After::GoOn(Passing::Until(label))),
         RuleFlow::EndPhase => Ok(After::End(None)),
         RuleFlow::EndTo3 => {
-            state.next_phase = 3;
+            state.next_phase = RESPONSE_HEADERS;
             Ok(After::End(None))
         }
         RuleFlow::EndTo5 => {
-            state.next_phase = 5;
+            state.next_phase = LOGGING;
             Ok(After::End(None))
         }
         RuleFlow::Interrupt(verdict) => {
@@ -206,7 +208,7 @@ pub fn too_large() -> Verdict
     Verdict {
         rule: 0,
         act: VerdictAct::Deny,
-        status: 413,
+        status: CONTENT_TOO_LARGE,
     }
 }
 
@@ -222,7 +224,7 @@ fn with_body(
         state.verdict = Some(too_large());
         return Ok(Some(too_large()));
     }
-    walk(alloc, 2, listing.items.as_slice(), state)
+    walk(alloc, REQUEST_BODY, listing.items.as_slice(), state)
 }
 
 /// Runs a phase in place, and answers its verdict.
@@ -238,7 +240,7 @@ pub(crate) fn run(
     if number < state.next_phase {
         return Ok(None);
     }
-    if number == 2 {
+    if number == REQUEST_BODY {
         open_body(alloc, listing, state)?;
         return with_body(alloc, listing, state);
     }

@@ -73,44 +73,91 @@ impl Clone for PlainState {
     ghost is_clone = { λ a b. b ≡ a };
 
     fn clone(&self) -> Result<PlainState, AllocError> {
-        let (request, response, verdict) = copy_messages(self)?;
-        let (tx, captured, matched) = copy_rows(self)?;
-        let (removed_rules, lines) = copy_rules(self)?;
-        Ok(PlainState {
-            engine: self.engine,
-            request_body: self.request_body,
-            response_body: self.response_body,
-            processor: self.processor,
-            request,
-            body: self.body,
-            response,
-            tx,
-            captured,
-            matched,
-            removed_rules,
-            next_phase: self.next_phase,
-            verdict,
-            lines,
-        })
+        let lists = copy_lists(self)?;
+        match copy_messages(self) {
+            Ok(messages) => Ok(with_parts(self, messages, lists)),
+            Err(no_memory) => {
+                drop(lists);
+                Err(no_memory)
+            }
+        }
     }
 }
 
-// The parts of a clone that take memory are made in three functions, each with few of them: what is let
-// go where memory runs out makes a proof long.
+// The parts of a clone that take memory are made by functions, each of few of them: what is let go where
+// memory runs out makes a proof long.
 
-// What came from outside, and the verdict on it.
-fn copy_messages(
-    state: &PlainState,
-) -> Result<(Request, Option<AddedResponse>, Option<Verdict>), AllocError>
-    ensures { IfOk result (λ copy. copy ≡ (state.now.request, state.now.response, state.now.verdict)) }
+type Messages = (Request, Option<AddedResponse>);
+
+type Rows = (Variables, Captures, Seq<NameValue>);
+
+type Results = (Seq<Removed>, Option<Verdict>, Seq<LogLine>);
+
+// The settings of a state, with these parts beside them.
+fn with_parts(state: &PlainState, messages: Messages, lists: (Rows, Results)) -> PlainState
+    ensures { result ≡ record state.now {
+      request = messages.0;
+      response = messages.1;
+      tx = lists.0.0;
+      captured = lists.0.1;
+      matched = lists.0.2;
+      removed_rules = lists.1.0;
+      verdict = lists.1.1;
+      lines = lists.1.2;
+    } }
 {
-    let request = state.request.clone()?;
-    let response = copy_response(&state.response)?;
-    let verdict = state.verdict.clone()?;
-    Ok((request, response, verdict))
+    let (request, response) = messages;
+    let ((tx, captured, matched), (removed_rules, verdict, lines)) = lists;
+    PlainState {
+        engine: state.engine,
+        request_body: state.request_body,
+        response_body: state.response_body,
+        processor: state.processor,
+        request,
+        body: state.body,
+        response,
+        tx,
+        captured,
+        matched,
+        removed_rules,
+        next_phase: state.next_phase,
+        verdict,
+        lines,
+    }
 }
 
-fn copy_rows(state: &PlainState) -> Result<(Variables, Captures, Seq<NameValue>), AllocError>
+fn copy_lists(state: &PlainState) -> Result<(Rows, Results), AllocError>
+    ensures { IfOk result (λ copy. copy
+        ≡ (
+          (state.now.tx, state.now.captured, state.now.matched),
+          (state.now.removed_rules, state.now.verdict, state.now.lines),
+        )) }
+{
+    let rows = copy_rows(state)?;
+    match copy_results(state) {
+        Ok(results) => Ok((rows, results)),
+        Err(no_memory) => {
+            drop(rows);
+            Err(no_memory)
+        }
+    }
+}
+
+// What came from outside.
+fn copy_messages(state: &PlainState) -> Result<Messages, AllocError>
+    ensures { IfOk result (λ copy. copy ≡ (state.now.request, state.now.response)) }
+{
+    let request = state.request.clone()?;
+    match copy_response(&state.response) {
+        Ok(response) => Ok((request, response)),
+        Err(no_memory) => {
+            drop(request);
+            Err(no_memory)
+        }
+    }
+}
+
+fn copy_rows(state: &PlainState) -> Result<Rows, AllocError>
     ensures { IfOk result (λ copy. copy ≡ (state.now.tx, state.now.captured, state.now.matched)) }
 {
     let tx = state.tx.clone()?;
@@ -119,13 +166,14 @@ fn copy_rows(state: &PlainState) -> Result<(Variables, Captures, Seq<NameValue>)
     Ok((tx, captured, matched))
 }
 
-// The rules that are passed over, and what rules logged.
-fn copy_rules(state: &PlainState) -> Result<(Seq<Removed>, Seq<LogLine>), AllocError>
-    ensures { IfOk result (λ copy. copy ≡ (state.now.removed_rules, state.now.lines)) }
+// The rules that are passed over, the verdict, and what rules logged.
+fn copy_results(state: &PlainState) -> Result<Results, AllocError>
+    ensures { IfOk result (λ copy. copy ≡ (state.now.removed_rules, state.now.verdict, state.now.lines)) }
 {
     let removed_rules = state.removed_rules.clone()?;
+    let verdict = state.verdict.clone()?;
     let lines = state.lines.clone()?;
-    Ok((removed_rules, lines))
+    Ok((removed_rules, verdict, lines))
 }
 
 fn copy_response(response: &Option<AddedResponse>) -> Result<Option<AddedResponse>, AllocError>

@@ -10,7 +10,7 @@ use Rattle.tx_core.specs.declared.half.Begun.TheVariants.{Goes, Interrupted}
 use Rattle.tx_core.specs.declared.half.Ended.{Ended}
 use Rattle.tx_core.specs.HalfView.{HalfView}
 
--- the lines of phases 1 and 2
+-- the lines of the phases of the request
 abbrev pub first_lines : Listing → Request → List LogLine
 first_lines listing request = (request_part listing request).state.lines
 

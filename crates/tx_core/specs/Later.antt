@@ -1,7 +1,8 @@
--- What comes of a transaction behind phase 2.
+-- What comes of a transaction after the phases of the request.
 use Rattle.std.specs.Prelude.{◌≡◌, ◌++◌, Option, Some, None}
 use Rattle.sec_ast.specs.declared.listing.Listing.{Listing}
 use Rattle.web_parts.specs.declared.transaction.Response.{Response}
+use Rattle.sec_meaning.specs.declared.phase_number.TheConstants.{RESPONSE_HEADERS, RESPONSE_BODY}
 use Rattle.sec_meaning.specs.declared.state.Judged.{Judged}
 use Rattle.sec_meaning.specs.declared.state.PlainState.{PlainState}
 use Rattle.sec_meaning.specs.Judgement.{answered, last_part, two_phases}
@@ -9,17 +10,17 @@ use Rattle.sec_meaning.specs.Phase.{Run, ended}
 use Rattle.tx_core.specs.declared.half.Ended.{Ended}
 use Rattle.tx_core.specs.Lines.{without_lines}
 
--- phases 3 and 4, where there is a response
+-- the phases of the response, where there is one
 abbrev pub later_part : Listing → Option Response → PlainState → Run
 later_part listing None s = ended s
-later_part listing (Some response) s = two_phases listing 3 4 (answered response s)
+later_part listing (Some response) s = two_phases listing RESPONSE_HEADERS RESPONSE_BODY (answered response s)
 
--- what comes of phases 3, 4 and 5
+-- what comes of these and the logging phase
 pub record FollowsAs (listing : Listing) (response : Response) (s : PlainState) (e : Ended) : Type 0 where
   pub verdict : e.verdict ≡ (later_part listing (Some response) s).verdict
   pub lines : e.lines ≡ (last_part listing (later_part listing (Some response) s)).lines
 
--- the judgement of a request that was not interrupted, from the state after phase 2. Its lines are those that stood
+-- the judgement of a request that was not interrupted, from the state after its phases. Its lines are those that stood
 -- there, and those that come of the state without them
 abbrev pub judged_later : Listing → Option Response → PlainState → Judged
 judged_later listing response s =

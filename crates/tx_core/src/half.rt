@@ -1,12 +1,14 @@
 ghost use Rattle.std.specs.Prelude.{◌≡◌, ◌+◌, ◌≤◌, IfOk};
 ghost use Rattle.std.specs.Arc.{arc_value};
 ghost use Rattle.sec_eval.specs.Counting.{rules_in};
+ghost use Rattle.sec_meaning.specs.declared.phase_number.TheConstants.{REQUEST_HEADERS, REQUEST_BODY, RESPONSE_HEADERS, RESPONSE_BODY, LOGGING};
 ghost use Rattle.tx_core.specs.Halves.{BeginsAs, EndsAs, RetiresAs};
 
 use crate::phases::{judge_response, last_lines, two_phases};
 use sec_ast::{LogLine, Verdict};
 use sec_compile::Ruleset;
 use sec_eval::State;
+use sec_meaning::phase_number::{REQUEST_BODY, REQUEST_HEADERS};
 use std::alloc::Global;
 use std::marker::Model;
 use std::sync::Arc;
@@ -73,7 +75,7 @@ impl Half {
     }
 }
 
-/// Judges a request: phases 1 and 2, and where they interrupt the logging phase.
+/// Judges a request: its two phases, and where they interrupt the logging phase.
 pub fn begin<L: Ledger>(
     alloc: Global,
     rules: Arc<Ruleset, Global>,
@@ -83,11 +85,18 @@ pub fn begin<L: Ledger>(
 ) -> Result<Begun, NoMemory>
     ensures begins { IfOk result (λ begun. BeginsAs (arc_value rules) generation request begun) }
     ensures most { steps.new ≤ steps.old
-        + (rules_in 1 (arc_value rules).items + rules_in 2 (arc_value rules).items
-        + rules_in 5 (arc_value rules).items) }
+        + (rules_in REQUEST_HEADERS (arc_value rules).items + rules_in REQUEST_BODY (arc_value rules).items
+        + rules_in LOGGING (arc_value rules).items) }
 {
     let mut state = State::start(alloc, &rules, request)?;
-    match two_phases(alloc, &rules, 1, 2, &mut state, steps) {
+    match two_phases(
+        alloc,
+        &rules,
+        REQUEST_HEADERS,
+        REQUEST_BODY,
+        &mut state,
+        steps,
+    ) {
         Ok(None) => {
             let lines = state.take_lines(alloc);
             let half = Half {
@@ -112,7 +121,7 @@ pub fn begin<L: Ledger>(
     }
 }
 
-/// Judges the response of a half: phases 3 and 4, and the logging phase.
+/// Judges the response of a half: its two phases, and the logging phase.
 pub fn finish<L: Ledger>(
     alloc: Global,
     half: Half,
@@ -121,7 +130,8 @@ pub fn finish<L: Ledger>(
 ) -> Result<Ended, NoMemory>
     ensures ends { IfOk result (λ ended. EndsAs half response ended) }
     ensures most { steps.new ≤ steps.old
-        + (rules_in 3 half.listing.items + rules_in 4 half.listing.items + rules_in 5 half.listing.items) }
+        + (rules_in RESPONSE_HEADERS half.listing.items + rules_in RESPONSE_BODY half.listing.items
+        + rules_in LOGGING half.listing.items) }
 {
     let Half {
         rules,
@@ -141,7 +151,7 @@ pub fn retire<L: Ledger>(
     steps: &mut Steps<L>,
 ) -> Result<Seq<LogLine>, NoMemory>
     ensures retires { IfOk result (λ lines. RetiresAs half lines) }
-    ensures most { steps.new ≤ steps.old + rules_in 5 half.listing.items }
+    ensures most { steps.new ≤ steps.old + rules_in LOGGING half.listing.items }
 {
     let Half {
         rules,

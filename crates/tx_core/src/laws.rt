@@ -7,6 +7,7 @@ ghost use Rattle.sec_eval.specs.Counting.{rules_in};
 ghost use Rattle.sec_meaning.specs.declared.state.PlainState.{PlainState};
 ghost use Rattle.sec_meaning.specs.Judgement.{judge, last_part, request_part, two_phases};
 ghost use Rattle.sec_meaning.specs.Phase.{ended, phase};
+ghost use Rattle.sec_meaning.specs.declared.phase_number.TheConstants.{LOGGING};
 ghost use Rattle.tx_core.specs.Laws.{AddsBehind, KeepsRequest};
 ghost use Rattle.tx_core.specs.Later.{judged_later};
 
@@ -39,5 +40,5 @@ pub fn judgements_come_in_halves()
 /// Where no rule is of the logging phase, that phase looks at none and changes nothing. So a half that
 /// is given up then logs no line. It does nothing.
 pub fn logging_may_be_empty()
-    ensures { (l : Listing) (s : PlainState) → rules_in 5 l.items ≡ 0 → phase l 5 s ≡ ended s }
+    ensures { (l : Listing) (s : PlainState) → rules_in LOGGING l.items ≡ 0 → phase l LOGGING s ≡ ended s }
 {}

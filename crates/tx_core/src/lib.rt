@@ -1,5 +1,5 @@
-//! A judgement that stops after phase 2 and goes on later, when the response is there or when none
-//! comes any more.
+//! A judgement that stops after the phases of the request, and goes on later, when the response is there
+//! or when none comes any more.
 //!
 //! `begin(alloc, rules, generation, request, &mut steps)` answers `Begun::Goes` with a `Half`, of which
 //! `finish` or `retire` makes the rest. The definitions are `BeginsAs`, `EndsAs` and `RetiresAs` in

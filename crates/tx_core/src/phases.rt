@@ -2,12 +2,14 @@ ghost use Rattle.std.specs.Prelude.{◌≡◌, ◌+◌, ◌≤◌, IfOk, OnOk};
 ghost use Rattle.sec_eval.specs.Counting.{rules_in};
 ghost use Rattle.sec_meaning.specs.Judgement.{two_phases};
 ghost use Rattle.sec_meaning.specs.Phase.{phase};
+ghost use Rattle.sec_meaning.specs.declared.phase_number.TheConstants.{RESPONSE_HEADERS, RESPONSE_BODY, LOGGING};
 ghost use Rattle.tx_core.specs.Later.{FollowsAs};
 
 use crate::Ended;
 use sec_ast::{LogLine, Verdict};
 use sec_compile::Ruleset;
 use sec_eval::{Flow, State, run_phase};
+use sec_meaning::phase_number::{LOGGING, RESPONSE_BODY, RESPONSE_HEADERS};
 use std::alloc::Global;
 use std::sync::ledger::Ledger;
 use waf_plain::{NoMemory, Seq, Steps};
@@ -35,21 +37,21 @@ pub(crate) fn two_phases<L: Ledger>(
     }
 }
 
-/// Runs phase 5, which ends a transaction, and takes the lines that stand then.
+/// Runs the logging phase, which ends a transaction, and takes the lines that stand then.
 pub(crate) fn last_lines<L: Ledger>(
     alloc: Global,
     rules: &Ruleset,
     state: &mut State,
     steps: &mut Steps<L>,
 ) -> Result<Seq<LogLine>, NoMemory>
-    ensures lines { IfOk result (λ lines. lines ≡ (phase rules.now 5 state.old).state.lines) }
-    ensures most { steps.new ≤ steps.old + rules_in 5 rules.now.items }
+    ensures lines { IfOk result (λ lines. lines ≡ (phase rules.now LOGGING state.old).state.lines) }
+    ensures most { steps.new ≤ steps.old + rules_in LOGGING rules.now.items }
 {
-    run_phase(alloc, rules, 5, state, steps)?;
+    run_phase(alloc, rules, LOGGING, state, steps)?;
     Ok(state.take_lines(alloc))
 }
 
-/// Runs phases 3 and 4 with the response, and phase 5 behind them.
+/// Runs the phases of the response, and the logging phase after them.
 pub(crate) fn judge_response<L: Ledger>(
     alloc: Global,
     rules: &Ruleset,
@@ -59,10 +61,11 @@ pub(crate) fn judge_response<L: Ledger>(
 ) -> Result<Ended, NoMemory>
     ensures follows { IfOk result (λ ended. FollowsAs rules.now response state.old ended) }
     ensures most { steps.new ≤ steps.old
-        + (rules_in 3 rules.now.items + rules_in 4 rules.now.items + rules_in 5 rules.now.items) }
+        + (rules_in RESPONSE_HEADERS rules.now.items + rules_in RESPONSE_BODY rules.now.items
+        + rules_in LOGGING rules.now.items) }
 {
     state.answer(alloc, response)?;
-    let verdict = two_phases(alloc, rules, 3, 4, state, steps)?;
+    let verdict = two_phases(alloc, rules, RESPONSE_HEADERS, RESPONSE_BODY, state, steps)?;
     let lines = last_lines(alloc, rules, state, steps)?;
     Ok(Ended { verdict, lines })
 }

@@ -1,4 +1,4 @@
-use Rattle.std.proofs.Common.{refl, rules}
+use Rattle.std.proofs.Common.{rules}
 use Rattle.sec_collect.proofs.captures.captured_rows.Goals as goal
 
 pub invariant_of-result : goal.invariant_of-result

@@ -1,10 +1,10 @@
 use Rattle.std.proofs.Common.{◌≡◌, length}
 use Rattle.sec_collect.specs.Expansion.{first_value}
-use Rattle.sec_collect.specs.Lent.{lent}
+use Rattle.sec_collect.specs.RowList.{row_list}
 use Rattle.sec_collect.proofs.expansion.first_value.Given as goal
 
 abbrev pub invariant-loop-name : goal.invariant-loop-name
-invariant-loop-name l = first_value l.key (lent l.rest) ≡ first_value l.key (lent l.rows)
+invariant-loop-name l = first_value l.key (row_list l.rest) ≡ first_value l.key (row_list l.rows)
 
 abbrev pub decreases-loop-name : goal.decreases-loop-name
-decreases-loop-name l = length (lent l.rest)
+decreases-loop-name l = length (row_list l.rest)

@@ -8,4 +8,4 @@ loop-first-init c = whole_or c.args.path.now
 
 pub loop-first-preserved-then-is_slash : goal.loop-first-preserved-then-is_slash
 loop-first-preserved-then-is_slash c =
-    at_slash c.in-Some.first.now c.in-Some.behind.now c.loop-first.name.now (basename c.args.path.now) (search rules) (rw c.in-Some.ensures.cases.0 at c.loop-first.invariant)
+    at_slash c.in-Some.first.now c.in-Some.following.now c.loop-first.name.now (basename c.args.path.now) (search rules) (rw c.in-Some.ensures.cases.0 at c.loop-first.invariant)

@@ -2,13 +2,13 @@ use Rattle.std.proofs.Common.{◌≡◌, ◌++◌, length}
 use Rattle.std.specs.Prelude.{filter, map}
 use Rattle.std.specs.List.{zip}
 use Rattle.sec_collect.specs.Selection.{keeps, value_row}
-use Rattle.sec_collect.specs.Lent.{lent}
+use Rattle.sec_collect.specs.RowList.{row_list}
 use Rattle.sec_collect.proofs.selection.add_rows.Given as goal
 
 abbrev pub invariant-loop-name : goal.invariant-loop-name
 invariant-loop-name g l =
     let test = keeps g.M.Selector.meaning (zip l.query.targets.now l.query.patterns.now) l.removed (l.target, l.pattern) in
-    l.out ++ map (value_row l.target.var) (filter (λ r. test r.name) (lent l.rest)) ≡ l.fn.out ++ map (value_row l.target.var) (filter (λ r. test r.name) (lent l.rows))
+    l.out ++ map (value_row l.target.var) (filter (λ r. test r.name) (row_list l.rest)) ≡ l.fn.out ++ map (value_row l.target.var) (filter (λ r. test r.name) (row_list l.rows))
 
 abbrev pub decreases-loop-name : goal.decreases-loop-name
-decreases-loop-name g l = length (lent l.rest)
+decreases-loop-name g l = length (row_list l.rest)

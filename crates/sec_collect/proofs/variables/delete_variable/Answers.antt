@@ -1,4 +1,4 @@
-use Rattle.sec_collect.specs.Variables.{ArePut, by_deletion}
+use Rattle.sec_collect.specs.Variables.{by_deletion}
 use Rattle.sec_collect.proofs.variables.delete_variable.Goals as goal
 
 pub invariant_of-tx : goal.invariant_of-tx

@@ -1,4 +1,4 @@
-use Rattle.sec_collect.specs.Variables.{ArePut, none}
+use Rattle.sec_collect.specs.Variables.{none}
 use Rattle.sec_collect.proofs.variables.Variables.new.Goals as goal
 
 pub invariant_of-result : goal.invariant_of-result

@@ -7,7 +7,7 @@ use Rattle.web_parts.specs.declared.transaction.Request.{Request}
 use Rattle.sec_collect.specs.declared.parts.OpenedBody.{OpenedBody}
 use Rattle.sec_collect.specs.declared.parts.AddedResponse.{AddedResponse}
 
-pub record Held : Type 0 where
+pub record TransactionView : Type 0 where
   pub request : Request
   -- the processor that `ctl` chose, `Plain` where none did
   pub processor : Processor
@@ -23,7 +23,7 @@ pub record Held : Type 0 where
   pub matched : List NameValue
 
 -- a transaction of which only the request is known
-abbrev pub of_request : Request → Held
+abbrev pub of_request : Request → TransactionView
 of_request request = record {
   request = request;
   processor = Plain;
