@@ -117,8 +117,8 @@ module _ {R P T : Type 0} where
   -- no memory was found, where this was left and held
   broke_with : (d : ConnView R P T) (s : State R P T) (hold : Option (Hold T)) (rest : List (Need R P T)) → trace s.size s.input s.ended s.replies ≡ s.past ++ rest
       → tickets_in s.replies ≡ spent_in s.past ++ held_by hold → d.broken ≡ true → Waits d.stage d → IsEnding d.stage
-      → ending d.stage d.hold ≡ leaves hold ++ last → Stands d s
-  broke_with d s hold rest whole tickets b w i e =
+      → ending d.stage d.hold ≡ leaves hold ++ last → d.hold ≡ hold → Stands d s
+  broke_with d s hold rest whole tickets b w i e same =
       let open_tickets : drop (length (spent_in s.past)) (tickets_in s.replies) ≡ held_by hold =
       ap (λ (l : List T). drop (length (spent_in s.past)) l) tickets ∙ drop_at (spent_in s.past) (held_by hold) (length (spent_in s.past)) refl in
       let broken : Broken d s = record {
@@ -129,33 +129,35 @@ module _ {R P T : Type 0} where
           is = ap (λ (l : List (Need R P T)). s.past ++ l) (e ∙ ap (λ (l : List T). map Leave l ++ last) (sym open_tickets));
         };
         ending_is = i;
+        tickets = tickets ∙ ap (λ (o : Option (Hold T)). spent_in s.past ++ held_by o) (sym same);
       } in
       record { waits = w; stands = subst (λ (x : Bool). StandsAs x d s) (sym b) broken }
 
-  pub broke : (c d : ConnView R P T) (s : State R P T) → d.broken ≡ true → Waits d.stage d → IsEnding d.stage → ending d.stage d.hold ≡ leaves c.hold ++ last → Plain c s → Stands d s
-  broke c d s b w i e p = broke_with d s c.hold (left_of c [] c.ended []) (trace_now c s p.going) p.tickets b w i e
+  pub broke : (c d : ConnView R P T) (s : State R P T) → d.broken ≡ true → Waits d.stage d → IsEnding d.stage → ending d.stage d.hold ≡ leaves c.hold ++ last → d.hold ≡ c.hold → Plain c s → Stands d s
+  broke c d s b w i e same p = broke_with d s c.hold (left_of c [] c.ended []) (trace_now c s p.going) p.tickets b w i e same
 
   -- where it holds no ticket
   fallen_with : (d : ConnView R P T) (s : State R P T) (hold : Option (Hold T)) (rest : List (Need R P T)) → trace s.size s.input s.ended s.replies ≡ s.past ++ rest
-      → tickets_in s.replies ≡ spent_in s.past ++ held_by hold → d.stage ≡ at.LastWrite → d.broken ≡ true → hold ≡ None → Stands d s
-  fallen_with d s hold rest whole tickets e b t =
+      → tickets_in s.replies ≡ spent_in s.past ++ held_by hold → d.stage ≡ at.LastWrite → d.broken ≡ true → d.hold ≡ hold → hold ≡ None → Stands d s
+  fallen_with d s hold rest whole tickets e b same t =
       broke_with d s hold rest whole tickets b (subst (λ (x : Stage R P). Waits x d) (sym e) b) (subst (λ (x : Stage R P). IsEnding x) (sym e) tt)
       (ap (λ (x : Stage R P). ending x d.hold) e ∙ ap (λ (o : Option (Hold T)). leaves o ++ last) (sym t))
+      same
 
-  pub fallen : (c d : ConnView R P T) (s : State R P T) → d.stage ≡ at.LastWrite → d.broken ≡ true → c.hold ≡ None → Plain c s → Stands d s
-  fallen c d s e b t p = fallen_with d s c.hold (left_of c [] c.ended []) (trace_now c s p.going) p.tickets e b t
+  pub fallen : (c d : ConnView R P T) (s : State R P T) → d.stage ≡ at.LastWrite → d.broken ≡ true → d.hold ≡ c.hold → c.hold ≡ None → Plain c s → Stands d s
+  fallen c d s e b same t p = fallen_with d s c.hold (left_of c [] c.ended []) (trace_now c s p.going) p.tickets e b same t
 
   -- at a frame that was taken off
-  pub fallen_at : (f : Frame) (c d : ConnView R P T) (s : State R P T) → d.stage ≡ at.LastWrite → d.broken ≡ true → c.hold ≡ None → Framed f c s → Stands d s
-  fallen_at f c d s e b t p =
+  pub fallen_at : (f : Frame) (c d : ConnView R P T) (s : State R P T) → d.stage ≡ at.LastWrite → d.broken ≡ true → d.hold ≡ c.hold → c.hold ≡ None → Framed f c s → Stands d s
+  fallen_at f c d s e b same t p =
       let rest = any_frame {R = R} {P = P} {T = T} c.size c.agreed (λ agreed. needs_from c.size agreed (c.unread ++ []) c.ended) f [] in
       let whole : trace s.size s.input s.ended s.replies ≡ s.past ++ rest = sym (λ i. trace s.size (append-nil s.input i) s.ended (append-nil s.replies i)) ∙ p.is [] false [] in
-      fallen_with d s c.hold rest whole p.tickets e b t
+      fallen_with d s c.hold rest whole p.tickets e b same t
 
   -- no memory was found for a piece of the input
   pub broke_fed : (c d : ConnView R P T) (s : State R P T) (piece : List ℕ) → hears c.stage c.ended ≡ true → d.broken ≡ true → Waits d.stage d → IsEnding d.stage
-      → ending d.stage d.hold ≡ leaves c.hold ++ last → Plain c s → Stands d (record s { input = s.input ++ piece })
-  broke_fed c d s piece h b w i e p =
+      → ending d.stage d.hold ≡ leaves c.hold ++ last → d.hold ≡ c.hold → Plain c s → Stands d (record s { input = s.input ++ piece })
+  broke_fed c d s piece h b w i e same p =
       let open_tickets : drop (length (spent_in s.past)) (tickets_in s.replies) ≡ held_by c.hold =
       ap (λ (l : List T). drop (length (spent_in s.past)) l) p.tickets ∙ drop_at (spent_in s.past) (held_by c.hold) (length (spent_in s.past)) refl in
       let was : trace s.size (s.input ++ piece) (false || s.ended) (s.replies ++ []) ≡ s.past ++ left_of c piece (false || c.ended) [] =
@@ -168,6 +170,7 @@ module _ {R P T : Type 0} where
           is = ap (λ (l : List (Need R P T)). s.past ++ l) (e ∙ ap (λ (l : List T). map Leave l ++ last) (sym open_tickets));
         };
         ending_is = i;
+        tickets = p.tickets ∙ ap (λ (o : Option (Hold T)). spent_in s.past ++ held_by o) (sym same);
       } in
       record { waits = w; stands = subst (λ (x : Bool). StandsAs x d (record s { input = s.input ++ piece })) (sym b) broken }
 

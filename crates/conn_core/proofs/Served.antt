@@ -17,11 +17,11 @@ use Rattle.conn_core.specs.declared.stage.Hold.{Hold}
 use Rattle.conn_core.specs.declared.stage.Stage.{Stage}
 use Rattle.conn_core.specs.declared.stage.Stage.TheVariants as at
 use Rattle.conn_core.specs.Trace.{Need, Look, Enter, Begin, Park, Leave, Resume, Finish, Retire, Write, Found, UnknownApp, Entered, Refused, Interrupted, Goes, Resumed, NotParked, Ended, held_by, trace, failed, judged}
-use Rattle.conn_core.specs.Stands.{State, ConnView, StillTaken, opening, served, replied, hears, is_open, Plain, Broken, IsTaken, Taken, IsEnding, StandsAs, Stands, Waits, WaitsForBytes, ending, fed, shut, rank}
+use Rattle.conn_core.specs.Stands.{State, ConnView, StillTaken, opening, served, replied, hears, is_open, Plain, Broken, IsTaken, Taken, IsEnding, StandsAs, Stands, Waits, WaitsForBytes, ending, fed, shut, rank, spent_in}
 use Rattle.conn_core.specs.Between.{after_write}
 use Rattle.conn_core.specs.Calls.{At, kind_at}
 use Rattle.conn_core.proofs.Inner.{trace_now, broke, broke_fed, fed_on, shut_on, hears_open}
-use Rattle.conn_core.proofs.Steps.{serves, hears_of, both, stays, plain_of, stands, at_stage}
+use Rattle.conn_core.proofs.Steps.{spent_append, serves, hears_of, both, stays, plain_of, stands, at_stage}
 
 module _ {R P : Type 0} where
   pub open_at : (stage : Stage R P) → ((how : closing.Closing) → stage ≡ at.Close how → ⊥) → is_open stage ≡ true
@@ -237,8 +237,8 @@ module _ {R P T : Type 0} where
   broken_when c s b h = subst (λ (x : Bool). StandsAs x c s) b h.stands
 
   -- a need of a broken trace is done
-  broken_on : (c d : ConnView R P T) (s : State R P T) (n : Need R P T) → ending c.stage c.hold ≡ n ∷ ending d.stage d.hold → IsEnding d.stage → Waits d.stage d → d.broken ≡ true → Broken c s → Stands d (served n s)
-  broken_on c d s n e i w b k =
+  broken_on : (c d : ConnView R P T) (s : State R P T) (n : Need R P T) → ending c.stage c.hold ≡ n ∷ ending d.stage d.hold → held_by c.hold ≡ spent_in (n ∷ []) ++ held_by d.hold → IsEnding d.stage → Waits d.stage d → d.broken ≡ true → Broken c s → Stands d (served n s)
+  broken_on c d s n e t i w b k =
       let broken : Broken d (served n s) = record {
         trace_is = record {
           front = k.trace_is.front;
@@ -247,32 +247,34 @@ module _ {R P T : Type 0} where
           is = append_assoc s.past (n ∷ []) (ending d.stage d.hold) ∙ ap (λ (l : List (Need R P T)). s.past ++ l) (sym e) ∙ k.trace_is.is;
         };
         ending_is = i;
+        tickets = k.tickets ∙ ap (λ (l : List T). spent_in s.past ++ l) t ∙ sym (append_assoc (spent_in s.past) (spent_in (n ∷ [])) (held_by d.hold))
+            ∙ ap (λ (l : List T). l ++ held_by d.hold) (sym (spent_append s.past (n ∷ [])));
       } in
       record { waits = w; stands = subst (λ (x : Bool). StandsAs x d (served n s)) (sym b) broken }
 
   pub left_broken : (c : ConnView R P T) (s : State R P T) (hold : Hold T) → c.stage ≡ at.LastLeave → c.hold ≡ Some hold → c.broken ≡ true → Stands c s → Stands (record c { stage = at.LastWrite; hold = None }) (served (Leave hold.ticket) s)
   left_broken c s hold e is b h =
       let k = broken_when (record c { stage = at.LastLeave }) s b (at_stage c s at.LastLeave e h) in
-      broken_on (record c { stage = at.LastLeave; hold = Some hold }) (record c { stage = at.LastWrite; hold = None }) s (Leave hold.ticket) refl tt b b
+      broken_on (record c { stage = at.LastLeave; hold = Some hold }) (record c { stage = at.LastWrite; hold = None }) s (Leave hold.ticket) refl refl tt b b
       (subst (λ (o : Option (Hold T)). Broken (record c { stage = at.LastLeave; hold = o }) s) is k)
 
   pub last_written : (c : ConnView R P T) (s : State R P T) → c.stage ≡ at.LastWrite → c.broken ≡ true → Stands c s → Stands (record c { stage = at.Close (closings.Ended 13) }) (served (Write (disconnect 13)) s)
   last_written c s e b h =
-      broken_on (record c { stage = at.LastWrite }) (record c { stage = at.Close (closings.Ended 13) }) s (Write (disconnect 13)) refl tt tt b
+      broken_on (record c { stage = at.LastWrite }) (record c { stage = at.Close (closings.Ended 13) }) s (Write (disconnect 13)) refl refl tt tt b
       (broken_when (record c { stage = at.LastWrite }) s b (at_stage c s at.LastWrite e h))
 
   -- no memory was found: where it held no ticket, or one
   pub fell : (c : ConnView R P T) (s : State R P T) (stage : Stage R P) → c.stage ≡ stage → (IsEnding stage → ⊥) → c.hold ≡ None → StandsAs c.broken c s → Stands (record c { stage = at.LastWrite; broken = true }) s
-  fell c s stage e n none h = broke (record c { stage = stage }) (record c { stage = at.LastWrite; broken = true }) s refl refl tt (rw none refl) (on_plain c s stage e n h).1
+  fell c s stage e n none h = broke (record c { stage = stage }) (record c { stage = at.LastWrite; broken = true }) s refl refl tt (rw none refl) refl (on_plain c s stage e n h).1
 
   pub fell_in : (c : ConnView R P T) (s : State R P T) (id : List ℕ) → c.stage ≡ at.Begun id → StandsAs c.broken c s → Stands (record c { stage = at.LastLeave; broken = true }) s
-  fell_in c s id e h = broke (record c { stage = at.Begun id }) (record c { stage = at.LastLeave; broken = true }) s refl refl tt refl (on_plain c s (at.Begun id) e (λ x. x) h).1
+  fell_in c s id e h = broke (record c { stage = at.Begun id }) (record c { stage = at.LastLeave; broken = true }) s refl refl tt refl refl (on_plain c s (at.Begun id) e (λ x. x) h).1
 
   pub gave_up : (c : ConnView R P T) (s : State R P T) (more : List ℕ) → hears c.stage c.ended ≡ true → Plain c s → Stands (record c { stage = at.LastLeave; broken = true }) (record s { input = s.input ++ more })
-  gave_up c s more h p = broke_fed c (record c { stage = at.LastLeave; broken = true }) s more h refl refl tt refl p
+  gave_up c s more h p = broke_fed c (record c { stage = at.LastLeave; broken = true }) s more h refl refl tt refl refl p
 
   pub gave_up_none : (c : ConnView R P T) (s : State R P T) (more : List ℕ) → hears c.stage c.ended ≡ true → c.hold ≡ None → Plain c s → Stands (record c { stage = at.LastWrite; broken = true }) (record s { input = s.input ++ more })
-  gave_up_none c s more h none p = broke_fed c (record c { stage = at.LastWrite; broken = true }) s more h refl refl tt (rw none refl) p
+  gave_up_none c s more h none p = broke_fed c (record c { stage = at.LastWrite; broken = true }) s more h refl refl tt (rw none refl) refl p
 
   waits_on : (stage : Stage R P) (c d : ConnView R P T) → c.broken ≡ d.broken → (stage ≡ at.Bytes → ⊥) → Waits stage c → Waits stage d
   waits_on at.Bytes c d q n w = absurd (n refl)

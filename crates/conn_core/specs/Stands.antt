@@ -205,9 +205,11 @@ module _ {R P T : Type 0} where
   ending (at.Close how) hold = Close how ∷ []
   ending stage hold = []
 
+  -- it does what is left of one, and holds the ticket that is open
   pub record Broken (c : ConnView R P T) (s : State R P T) : Type 0 where
     pub trace_is : IsBroken (trace s.size s.input s.ended s.replies) s.replies (s.past ++ ending c.stage c.hold)
     pub ending_is : IsEnding c.stage
+    pub tickets : tickets_in s.replies ≡ spent_in s.past ++ held_by c.hold
 
   -- whole, or broken: out of memory
   abbrev pub StandsAs : Bool → ConnView R P T → State R P T → Type 0

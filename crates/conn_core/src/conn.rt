@@ -92,6 +92,7 @@ impl<R, P, T> Conn<R, P, T> {
         ensures kind { result ≡ kind_at self.now.stage }
         ensures at { (s : State R P T) → Stands self.now s → At result self.now.broken self.now.stage }
         ensures bytes { (s : State R P T) → Stands self.now s → result ≡ Need.Bytes → WaitsForBytes s }
+        ensures holds { Holds self.now.stage self.now.hold }
     {
         match &self.stage {
             Stage::Bytes => Need::Bytes,

@@ -1,8 +1,8 @@
 -- Needs that a host was asked for, one after another.
-use Rattle.std.proofs.Common.{◌≡◌, inl, inr, ℕ, Bool, true, false, List, [], ◌∷◌, ◌++◌, refl, sym, ◌∙◌, ap, subst, append_assoc}
+use Rattle.std.proofs.Common.{◌≡◌, inl, inr, ℕ, Bool, true, false, List, [], ◌∷◌, ◌++◌, length, refl, sym, ◌∙◌, ap, subst, append_assoc}
 use Rattle.std.proofs.lemmas.List.{append-nil}
 use Rattle.conn_core.specs.Trace.{Need, Needs, Look, Replies}
-use Rattle.conn_loop.specs.Answered.{Step, Answered, Hosted, IsAsked, Starved, Takes, in_full}
+use Rattle.conn_loop.specs.Answered.{Step, Answered, Hosted, IsAsked, Starved, Takes, due, in_full}
 
 module _ {R P T : Type 0} where
   asked_more : (unreplied asked : Needs R P T) (n : Need R P T) → IsAsked unreplied asked → IsAsked (unreplied ++ n ∷ []) (asked ++ n ∷ [])
@@ -101,6 +101,16 @@ module _ {R P T Desk : Type 0} where
   hosted_more false e serves a b c past replies n stays step full x =
       hosted_full e serves a c (past ++ n ∷ []) replies
       (subst (λ (l : Replies R P T). Answered (in_full serves) a (past ++ n ∷ []) l c) (append-nil replies) (answered_more (in_full serves) a b c past replies n [] x full))
+
+  -- each reply that is due to a need
+  pub hosted_by : (d e : Bool) (serves : Step R P T Desk) (a b c : Desk) (past : Needs R P T) (replies : Replies R P T) (n : Need R P T) (mine : Replies R P T)
+      → (d ≡ true → (e ≡ true) × (due n ≡ 0)) → Takes serves b n mine c → Takes (in_full serves) b n mine c → length mine ≡ due n → Hosted d serves a past replies b
+      → Hosted e serves a (past ++ n ∷ []) (replies ++ mine) c
+  hosted_by false e serves a b c past replies n mine stays step full count x = hosted_full e serves a c (past ++ n ∷ []) (replies ++ mine) (answered_more (in_full serves) a b c past replies n mine x full)
+  hosted_by true e serves a b c past replies n [] stays step full count x =
+      subst (λ (e : Bool). Hosted e serves a (past ++ n ∷ []) (replies ++ []) c) (sym (stays refl).0)
+      (subst (λ (l : Replies R P T). Starved serves a (past ++ n ∷ []) l c) (sym (append-nil replies)) (starved_more serves a b c past replies n x step))
+  hosted_by true e serves a b c past replies n (r ∷ mine) stays step full count x = absurd (cc (count, (stays refl).1))
 
   -- nothing was asked
   pub hosted_still : (d e : Bool) (serves : Step R P T Desk) (a b : Desk) (past : Needs R P T) (replies : Replies R P T)

@@ -1,4 +1,5 @@
 mod Answering
+mod Meeting
 mod Moving
 mod Serving
 mod Standing

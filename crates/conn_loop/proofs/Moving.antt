@@ -1,31 +1,23 @@
 -- From one state of a connection to the next.
-use Rattle.std.proofs.Common.{◌≡◌, ℕ, Bool, true, false, List, [], ◌∷◌, ◌++◌, Option, Some, None, refl, sym, ◌∙◌, ap, subst}
+use Rattle.std.proofs.Common.{◌≡◌, inl, inr, ℕ, Bool, true, false, List, [], ◌∷◌, ◌++◌, length, Option, Some, None, refl, sym, ◌∙◌, ap, subst}
 use Rattle.std.proofs.lemmas.List.{append-nil}
 use Rattle.std.proofs.lemmas.Grind.{flat_map-append}
 use Rattle.waf_io.specs.Sink.{Adds}
 use Rattle.waf_io.proofs.Adds.{adds_both, adds_none}
-use Rattle.conn_core.specs.declared.answer.BegunAnswer as beginnings
-use Rattle.conn_core.specs.declared.answer.BegunAnswer.TheVariants as beguns
-use Rattle.conn_core.specs.declared.answer.EndedAnswer as endings
-use Rattle.conn_core.specs.declared.answer.EndedAnswer.TheVariants as ends
-use Rattle.conn_core.specs.declared.answer.LookAnswer as lookings
-use Rattle.conn_core.specs.declared.answer.LookAnswer.TheVariants as looks
-use Rattle.conn_core.specs.Calls.{begun_with, ended_with, looked_up, out_of}
+use Rattle.conn_core.specs.Calls.{kind_at, out_of}
 use Rattle.conn_core.specs.Stands.{ConnView, Stands, State, served}
-use Rattle.conn_core.specs.Trace.{Need, Replies, Begin, Finish, Look, Write}
+use Rattle.conn_core.specs.Trace.{Need, Replies, Bytes, Look, Enter, Begin, Park, Leave, Resume, Finish, Retire, Write, Close}
 use Rattle.conn_loop.specs.declared.connection.ConnEnd as end
 use Rattle.conn_loop.specs.declared.connection.ConnEnd.TheVariants as endings_of
 use Rattle.conn_loop.specs.declared.connection.Progress as progress
-use Rattle.conn_loop.specs.Answered.{Step, Hosted, Takes, begun_replies, bytes_of, ended_replies, in_full, look_replies, writes}
+use Rattle.conn_loop.specs.Answered.{Step, Hosted, Starved, Takes, bytes_of, due, in_full, writes}
 use Rattle.conn_loop.specs.Ends.{HasNeeds}
+use Rattle.conn_loop.specs.Met.{Meets, Met, asks_host, kind_of, met}
 use Rattle.conn_loop.specs.Steps.{Acts, Fails, GoesTo, Heard, Progresses, Runs, Same, Written, end_of}
-use Rattle.conn_loop.proofs.Answering.{answered_more, hosted_full, hosted_more, in_full_at, starved_at_look, starved_by}
+use Rattle.conn_loop.proofs.Answering.{hosted_by, hosted_more, in_full_at, starved_at_look, starved_by}
+use Rattle.conn_loop.proofs.Meeting.{after, look_or, met_full}
 
 module _ {R P T : Type 0} where
-  -- the state after a need, and replies to it
-  abbrev pub after : State R P T → Need R P T → Replies R P T → State R P T
-  after s n mine = record { size = s.size; input = s.input; ended = s.ended; replies = s.replies ++ mine; past = s.past ++ n ∷ [] }
-
   same : (s : State R P T) → Same s s
   same s = record { size = refl; input = refl; ended = refl }
 
@@ -44,40 +36,90 @@ module _ {R P T : Type 0} where
   silent s n old held none added = writes_on s n old held held added (subst (λ (l : List ℕ). Adds held l held) (sym none) (adds_none held))
 
 module _ {R P T Desk : Type 0} where
-  -- a need was done that the host replied to, or that no reply was due to
-  pub answered : (serves : Step R P T Desk) (first : Desk) (c d : ConnView R P T) (s : State R P T) (n : Need R P T) (mine : Replies R P T) (a b : Desk) (old held : Option (List ℕ))
-      → c.broken ≡ false → Takes (in_full serves) a n mine b → bytes_of n ≡ [] → Runs serves first c s a old held → Stands d (after s n mine)
-      → GoesTo serves first s d b old held
-  answered serves first c d s n mine a b old held whole step none r stands = record {
+  -- what is asked of a host is no write, and no matter of the loop
+  of_host : (serves : Step R P T Desk) (a b : Desk) (n : Need R P T) (mine : Replies R P T) → asks_host (kind_of n) ≡ true → serves a n mine b → Takes serves a n mine b × (bytes_of n ≡ [])
+  of_host serves a b Bytes mine asks step = absurd (cc asks)
+  of_host serves a b (Look app) mine asks step = (step, refl)
+  of_host serves a b (Enter key) mine asks step = (step, refl)
+  of_host serves a b (Begin rules request) mine asks step = (step, refl)
+  of_host serves a b (Park ticket life half) mine asks step = (step, refl)
+  of_host serves a b (Leave ticket) mine asks step = (step, refl)
+  of_host serves a b (Resume key) mine asks step = (step, refl)
+  of_host serves a b (Finish half response) mine asks step = (step, refl)
+  of_host serves a b (Retire half) mine asks step = (step, refl)
+  of_host serves a b (Write bytes) mine asks step = absurd (cc asks)
+  of_host serves a b (Close how) mine asks step = absurd (cc asks)
+
+  -- a need was done with each reply that is due
+  done_so : (serves : Step R P T Desk) (first : Desk) (c d : ConnView R P T) (s : State R P T) (n : Need R P T) (mine : Replies R P T) (a b : Desk) (old held : Option (List ℕ))
+      → asks_host (kind_of n) ≡ true → serves a n mine b → length mine ≡ due n → (c.broken ≡ true → (d.broken ≡ true) × (due n ≡ 0))
+      → Runs serves first c s a old held → Stands d (met n mine s) → GoesTo serves first s d b old held
+  done_so serves first c d s n mine a b old held asks step full stays r stands = record {
     state = after s n mine;
     runs = record {
-      stands = stands;
+      stands = subst (λ (t : State R P T). Stands d t) (met_full n mine s full) stands;
       hosted =
-          hosted_full d.broken serves first b (s.past ++ n ∷ []) (s.replies ++ mine)
-          (answered_more (in_full serves) first a b s.past s.replies n mine (in_full_at c.broken serves first a s.past s.replies whole r.hosted) step);
-      added = silent s n old held none r.added;
+          hosted_by c.broken d.broken serves first a b s.past s.replies n mine stays (of_host serves a b n mine asks step).0 (of_host (in_full serves) a b n mine asks (step, full)).0 full r.hosted;
+      added = silent s n old held (of_host serves a b n mine asks step).1 r.added;
     };
     same = record { size = refl; input = refl; ended = refl };
   }
 
-  -- one that memory ran out at
-  starved : (serves : Step R P T Desk) (first : Desk) (c d : ConnView R P T) (s : State R P T) (n : Need R P T) (a b : Desk) (old held : Option (List ℕ))
-      → c.broken ≡ false → d.broken ≡ true → Takes serves a n [] b → bytes_of n ≡ [] → Runs serves first c s a old held → Stands d (served n s)
+  -- memory ran out at it
+  starved : (serves : Step R P T Desk) (first : Desk) (c d : ConnView R P T) (s : State R P T) (n : Need R P T) (mine : Replies R P T) (a b : Desk) (old held : Option (List ℕ))
+      → asks_host (kind_of n) ≡ true → c.broken ≡ false → d.broken ≡ true → serves a n [] b → Runs serves first c s a old held → Stands d (met n [] s)
       → GoesTo serves first s d b old held
-  starved serves first c d s n a b old held whole broken step none r stands = record {
-    state = served n s;
-    runs = record {
-      stands = stands;
-      hosted =
-          subst (λ (e : Bool). Hosted e serves first (s.past ++ n ∷ []) s.replies b) (sym broken)
-          (starved_by serves first a b s.past s.replies n (in_full_at c.broken serves first a s.past s.replies whole r.hosted) step);
-      added = silent s n old held none r.added;
-    };
-    same = record { size = refl; input = refl; ended = refl };
-  }
+  starved serves first c d s n mine a b old held asks whole broken step r stands = elim (look_or n) [
+    | inl is ↦ record {
+      state = s;
+      runs = record {
+        stands = subst (λ (n : Need R P T). Stands d (met n [] s)) is.1 stands;
+        hosted =
+            subst (λ (e : Bool). Hosted e serves first s.past s.replies b) (sym broken)
+            (starved_at_look serves first a b s.past s.replies is.0 (in_full_at c.broken serves first a s.past s.replies whole r.hosted)
+            (subst (λ (n : Need R P T). serves a n [] b) is.1 step));
+        added = r.added;
+      };
+      same = same s;
+    }
+    | inr is ↦ record {
+      state = after s n [];
+      runs = record {
+        stands = subst (λ (t : State R P T). Stands d t) (is [] s) stands;
+        hosted =
+            subst (λ (e : Bool). Hosted e serves first (s.past ++ n ∷ []) (s.replies ++ []) b) (sym broken)
+            (subst (λ (l : Replies R P T). Starved serves first (s.past ++ n ∷ []) l b) (sym (append-nil s.replies))
+            (starved_by serves first a b s.past s.replies n (in_full_at c.broken serves first a s.past s.replies whole r.hosted) (of_host serves a b n [] asks step).0));
+        added = silent s n old held (of_host serves a b n [] asks step).1 r.added;
+      };
+      same = record { size = refl; input = refl; ended = refl };
+    }
+  ]
+
+  -- where none was given, it was out of memory before, or is now
+  none_given : (e : Bool) (serves : Step R P T Desk) (first : Desk) (c d : ConnView R P T) (s : State R P T) (a b : Desk) (old held : Option (List ℕ))
+      → c.broken ≡ e → (m : Met serves c d a b s) → asks_host (kind_of m.need) ≡ true → m.mine ≡ [] → d.broken ≡ true → Runs serves first c s a old held → GoesTo serves first s d b old held
+  none_given true serves first c d s a b old held is m asks none broken r =
+      done_so serves first c d s m.need m.mine a b old held asks m.step (ap length none ∙ sym (m.stays is).1) m.stays r m.stands
+  none_given false serves first c d s a b old held is m asks none broken r =
+      starved serves first c d s m.need m.mine a b old held asks is broken (subst (λ (l : Replies R P T). serves a m.need l b) none m.step) r
+      (subst (λ (l : Replies R P T). Stands d (met m.need l s)) none m.stands)
+
+  goes : (serves : Step R P T Desk) (first : Desk) (c d : ConnView R P T) (s : State R P T) (a b : Desk) (old held : Option (List ℕ))
+      → asks_host (kind_at c.stage) ≡ true → (m : Met serves c d a b s) → Runs serves first c s a old held → GoesTo serves first s d b old held
+  goes serves first c d s a b old held asks m r =
+      let asked : asks_host (kind_of m.need) ≡ true = ap asks_host m.kind ∙ asks in
+      elim m.replied [
+        | inl full ↦ done_so serves first c d s m.need m.mine a b old held asked m.step full m.stays r m.stands
+        | inr none ↦ none_given c.broken serves first c d s a b old held refl m asked none.0 none.1 r
+      ]
+
+  -- a need of the host was met
+  pub acts_of : (serves : Step R P T Desk) (c d : ConnView R P T) (a b : Desk) (held : Option (List ℕ)) → asks_host (kind_at c.stage) ≡ true → Meets serves c d a b → Acts serves c d a b held held
+  acts_of serves c d a b held asks m = λ first old s r. goes serves first c d s a b old held asks (m s r.stands) r
 
   -- one to which no reply is due, whole or out of memory
-  pub unanswered : (serves : Step R P T Desk) (first : Desk) (c d : ConnView R P T) (s : State R P T) (n : Need R P T) (a b : Desk) (old before now : Option (List ℕ))
+  unanswered : (serves : Step R P T Desk) (first : Desk) (c d : ConnView R P T) (s : State R P T) (n : Need R P T) (a b : Desk) (old before now : Option (List ℕ))
       → Takes serves a n [] b → Takes (in_full serves) a n [] b → (c.broken ≡ true → d.broken ≡ true) → Adds before (bytes_of n) now
       → Runs serves first c s a old before → Stands d (served n s) → GoesTo serves first s d b old now
   unanswered serves first c d s n a b old before now step full stays adds r stands = record {
@@ -90,56 +132,10 @@ module _ {R P T Desk : Type 0} where
     same = record { size = refl; input = refl; ended = refl };
   }
 
-  -- where all was whole before
-  pub quiet : (serves : Step R P T Desk) (first : Desk) (c d : ConnView R P T) (s : State R P T) (n : Need R P T) (a b : Desk) (old held : Option (List ℕ))
-      → c.broken ≡ false → Takes serves a n [] b → Takes (in_full serves) a n [] b → bytes_of n ≡ [] → Runs serves first c s a old held → Stands d (served n s)
-      → GoesTo serves first s d b old held
-  quiet serves first c d s n a b old held whole step full silent r stands =
-      unanswered serves first c d s n a b old held held step full (λ e. absurd (cc (whole, e))) (subst (λ (l : List ℕ). Adds held l held) (sym silent) (adds_none held)) r stands
-
   -- what was to be written was written
   pub wrote : (serves : Step R P T Desk) (c d : ConnView R P T) (a : Desk) (before now : Option (List ℕ)) → Written c d before now → Acts serves c d a a before now
   wrote serves c d a before now w = λ first old s r.
       unanswered serves first c d s (Write (out_of c.stage)) a a old before now (refl, refl) (refl, refl) w.stays w.added r (w.next s r.stands)
-
-  -- ---- an answer, or that memory ran out
-
-  pub looked : (serves : Step R P T Desk) (first : Desk) (c d : ConnView R P T) (s : State R P T) (app : List ℕ) (answer : lookings.LookAnswer R) (a b : Desk) (old held : Option (List ℕ))
-      → c.broken ≡ false → (answer ≡ looks.NoMemory → d.broken ≡ true) → serves a (Look app) (look_replies answer) b → Runs serves first c s a old held
-      → Stands d (looked_up app answer s) → GoesTo serves first s d b old held
-  looked serves first c d s app (looks.Found rules settings) a b old held whole breaks step r stands =
-      answered serves first c d s (Look app) _ a b old held whole (step, refl) refl r stands
-  looked serves first c d s app looks.UnknownApp a b old held whole breaks step r stands =
-      answered serves first c d s (Look app) _ a b old held whole (step, refl) refl r stands
-  looked serves first c d s app looks.NoMemory a b old held whole breaks step r stands = record {
-    state = s;
-    runs = record {
-      stands = stands;
-      hosted =
-          subst (λ (e : Bool). Hosted e serves first s.past s.replies b) (sym (breaks refl))
-          (starved_at_look serves first a b s.past s.replies app (in_full_at c.broken serves first a s.past s.replies whole r.hosted) step);
-      added = r.added;
-    };
-    same = same s;
-  }
-
-  pub begun : (serves : Step R P T Desk) (first : Desk) (c d : ConnView R P T) (s : State R P T) (rules : R) (request : _) (answer : beginnings.BegunAnswer P) (a b : Desk) (old held : Option (List ℕ))
-      → c.broken ≡ false → (answer ≡ beguns.NoMemory → d.broken ≡ true) → serves a (Begin rules request) (begun_replies answer) b → Runs serves first c s a old held
-      → Stands d (begun_with answer (served (Begin rules request) s)) → GoesTo serves first s d b old held
-  begun serves first c d s rules request (beguns.Interrupted verdict) a b old held whole breaks step r stands =
-      answered serves first c d s (Begin rules request) _ a b old held whole (step, refl) refl r stands
-  begun serves first c d s rules request (beguns.Goes half) a b old held whole breaks step r stands =
-      answered serves first c d s (Begin rules request) _ a b old held whole (step, refl) refl r stands
-  begun serves first c d s rules request beguns.NoMemory a b old held whole breaks step r stands =
-      starved serves first c d s (Begin rules request) a b old held whole (breaks refl) step refl r stands
-
-  pub finished : (serves : Step R P T Desk) (first : Desk) (c d : ConnView R P T) (s : State R P T) (half : P) (response : _) (answer : endings.EndedAnswer) (a b : Desk) (old held : Option (List ℕ))
-      → c.broken ≡ false → (answer ≡ ends.NoMemory → d.broken ≡ true) → serves a (Finish half response) (ended_replies answer) b → Runs serves first c s a old held
-      → Stands d (ended_with answer (served (Finish half response) s)) → GoesTo serves first s d b old held
-  finished serves first c d s half response (ends.Verdict verdict) a b old held whole breaks step r stands =
-      answered serves first c d s (Finish half response) _ a b old held whole (step, refl) refl r stands
-  finished serves first c d s half response ends.NoMemory a b old held whole breaks step r stands =
-      starved serves first c d s (Finish half response) a b old held whole (breaks refl) step refl r stands
 
   -- ---- one step after another
 

@@ -7,10 +7,7 @@ use Rattle.waf_io.proofs.Adds.{adds_none}
 use Rattle.spop_hello.specs.Frames.{disconnect}
 use Rattle.conn_core.specs.declared.need.Closing as closing
 use Rattle.conn_core.specs.declared.need.Closing.TheVariants as closings
-use Rattle.conn_core.specs.declared.stage.Hold.{Hold}
-use Rattle.conn_core.specs.declared.stage.Stage.{Stage}
-use Rattle.conn_core.specs.declared.stage.Stage.TheVariants as at
-use Rattle.conn_core.specs.Stands.{Closes, ConnView, Holds, IsBroken, Plain, Stands, StandsAs, State, WaitsForBytes, fed, is_held, is_open, listens, opening, shut, spent_in, tickets_in}
+use Rattle.conn_core.specs.Stands.{Closes, ConnView, IsBroken, Stands, State, WaitsForBytes, fed, is_open, listens, opening, served, shut, spent_in, tickets_in}
 use Rattle.conn_core.specs.Trace.{Need, Needs, Replies, Bytes, Leave, Write, Close, held_by, trace}
 use Rattle.conn_core.proofs.Standing.{fed_is, shut_is}
 use Rattle.conn_loop.specs.declared.connection.ConnEnd as end
@@ -18,8 +15,9 @@ use Rattle.conn_loop.specs.declared.connection.ConnEnd.TheVariants as ends
 use Rattle.conn_loop.specs.declared.connection.TheConstants.{MOST_BYTES}
 use Rattle.conn_loop.specs.Answered.{Step, Hosted}
 use Rattle.conn_loop.specs.Ends.{HasNeeds, IsTaken, Serves, Whole, around}
-use Rattle.conn_loop.specs.Steps.{EndsHere, Fails, Heard, Hears, IsFree, Rests, Runs}
+use Rattle.conn_loop.specs.Steps.{EndsHere, Fails, Heard, Hears, IsFree, Runs}
 use Rattle.conn_loop.proofs.Answering.{hosted_full, in_full_at}
+use Rattle.conn_loop.proofs.Meeting.{served_held, still_held, tickets}
 
 -- ---- a broken trace closes with status 13
 
@@ -289,39 +287,24 @@ module _ {R P T Desk : Type 0} (serves : Step R P T Desk) (size : ℕ) (first : 
       over_by how (all_taken from left after s.state.input (known left) same over s.told)
       (subst (λ (p : State R P T). Heard (Some how) serves first p d next old now) end_is (e first old s.state s.runs))
 
--- a connection that has not begun was given no ticket
+-- ---- the ticket that is held
+
 module _ {R P T : Type 0} where
-  pub free_at_first : (size : ℕ) (c : ConnView R P T) → Stands c (opening size) → listens c ≡ true → IsFree c
-  free_at_first size c stands hears =
-      let plain : Plain c (opening size) = subst (λ (b : Bool). StandsAs b c (opening size)) (unbroken c.broken (is_open c.stage) hears) stands.stands in
-      inr (sym plain.tickets)
+  -- a connection that has not begun was given no ticket
+  pub free_at_first : (size : ℕ) (c : ConnView R P T) → Stands c (opening size) → IsFree c
+  free_at_first size c stands = sym (tickets c (opening size) stands)
 
--- what needs nothing of the host holds no ticket
-free_at : {R P T : Type 0} (stage : Stage R P) (hold : Option (Hold T)) → Rests stage → Holds stage hold → is_held hold ≡ false
-free_at at.Bytes hold rests holds = holds
-free_at at.Ready hold rests holds = holds
-free_at (at.Look id key request) hold rests holds = holds
-free_at (at.Enter id key request rules life) hold rests holds = holds
-free_at (at.Entering id request rules life) hold rests holds = holds
-free_at (at.Begin id request rules) hold rests holds = absurd (cc rests)
-free_at (at.Begun id) hold rests holds = absurd (cc rests)
-free_at (at.Park id half) hold rests holds = absurd (cc rests)
-free_at (at.Leave id verdict) hold rests holds = absurd (cc rests)
-free_at (at.Retire id half) hold rests holds = holds
-free_at (at.Retiring id) hold rests holds = holds
-free_at (at.Resume id key response) hold rests holds = holds
-free_at (at.Resuming id response) hold rests holds = holds
-free_at (at.Finish id half response) hold rests holds = holds
-free_at (at.Finishing id) hold rests holds = holds
-free_at (at.Write bytes then) hold rests holds = holds
-free_at at.LastLeave hold rests holds = absurd (cc rests)
-free_at at.LastWrite hold rests holds = holds
-free_at (at.Close how) hold rests holds = holds
+  free_if : (b : Bool) (c d : ConnView R P T) (s t : State R P T) → t.replies ≡ s.replies → t.past ≡ s.past → Stands c s → Stands d (cond b t s) → held_by c.hold ≡ held_by d.hold
+  free_if true c d s t replies past x y = still_held c d s t replies past x y
+  free_if false c d s t replies past x y = still_held c d s s refl refl x y
 
-none_held : {T : Type 0} (hold : Option (Hold T)) → is_held hold ≡ false → held_by hold ≡ []
-none_held None none = refl
-none_held (Some hold) none = absurd (cc none)
+  -- none is given by a piece of the input, or at its end
+  pub fed_free : (c d : ConnView R P T) (s : State R P T) (piece : List ℕ) → Stands c s → Stands d (fed c piece s) → IsFree c → IsFree d
+  fed_free c d s piece x y free = sym (free_if (listens c) c d s _ refl refl x y) ∙ free
 
-pub no_ticket : {R P T : Type 0} (c : ConnView R P T) → IsFree c → Holds c.stage c.hold → held_by c.hold ≡ []
-no_ticket c (inl rests) holds = none_held c.hold (free_at c.stage c.hold rests holds)
-no_ticket c (inr none) holds = none
+  pub shut_free : (c d : ConnView R P T) (s : State R P T) → Stands c s → Stands d (shut c s) → IsFree c → IsFree d
+  shut_free c d s x y free = sym (free_if (listens c) c d s _ refl refl x y) ∙ free
+
+  -- nor by a write
+  pub written_free : (c d : ConnView R P T) (s : State R P T) (bytes : List ℕ) → Stands c s → Stands d (served (Write bytes) s) → IsFree c → IsFree d
+  written_free c d s bytes x y free = sym (served_held c d s (Write bytes) x y) ∙ free

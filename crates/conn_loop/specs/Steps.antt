@@ -1,12 +1,9 @@
 -- What a step of the loop does to the state that a connection stands for.
-use Rattle.std.specs.Prelude.{◌≡◌, ◌⊎◌, ℕ, Bool, true, false, List, [], ◌∷◌, ◌++◌, Option, Some, None}
+use Rattle.std.specs.Prelude.{◌≡◌, ℕ, true, List, [], ◌∷◌, ◌++◌, Option, Some, None}
 use Rattle.waf_io.specs.Sink.{Adds}
 use Rattle.waf_io.specs.declared.sink.Wrote as wrote
 use Rattle.waf_io.specs.declared.sink.Wrote.TheVariants as wrotes
-use Rattle.conn_core.specs.declared.need.Need as need
-use Rattle.conn_core.specs.declared.need.Need.TheVariants as needs
-use Rattle.conn_core.specs.declared.stage.Stage.{Stage}
-use Rattle.conn_core.specs.Calls.{kind_at, out_of}
+use Rattle.conn_core.specs.Calls.{out_of}
 use Rattle.conn_core.specs.Stands.{ConnView, State, Stands, Closes, WaitsForBytes, fed, listens, served, shut}
 use Rattle.conn_core.specs.Trace.{Needs, Write, held_by}
 use Rattle.conn_loop.specs.declared.connection.ConnEnd as end
@@ -16,17 +13,6 @@ use Rattle.conn_loop.specs.declared.connection.Progress.TheVariants as progresse
 use Rattle.conn_loop.specs.Answered.{Step, Hosted, writes}
 use Rattle.conn_loop.specs.Ends.{HasNeeds}
 
--- a need of the host
-abbrev pub asks_host : need.Need → Bool
-asks_host needs.Bytes = false
-asks_host needs.Write = false
-asks_host needs.Close = false
-asks_host other = true
-
--- it needs nothing of the host
-abbrev pub Rests : {R P : Type 0} → Stage R P → Type 0
-Rests stage = asks_host (kind_at stage) ≡ false
-
 -- whether that is the end of the connection
 abbrev pub end_of : progress.Progress → Option end.ConnEnd
 end_of progresses.Waits = None
@@ -34,9 +20,9 @@ end_of (progresses.Closes how) = Some (ends.Closed how)
 end_of progresses.Fails = Some ends.WriteFault
 
 module _ {R P T : Type 0} where
-  -- it holds no ticket: it needs nothing of the host, or was given none
+  -- it holds no ticket
   abbrev pub IsFree : ConnView R P T → Type 0
-  IsFree c = Rests c.stage ⊎ (held_by c.hold ≡ [])
+  IsFree c = held_by c.hold ≡ []
 
   -- the same input of the same agent
   pub record Same (s t : State R P T) : Type 0 where

@@ -4,7 +4,8 @@ ghost use Rattle.waf_io.specs.Source.{Reads};
 ghost use Rattle.conn_core.specs.Calls.{At};
 ghost use Rattle.conn_core.specs.Stands.{calls_left, Closes, listens, opening, Stands, State};
 ghost use Rattle.conn_loop.specs.Ends.{around, Serves};
-ghost use Rattle.conn_loop.specs.Steps.{EndsHere, Hears, IsFree, IsServing, Progresses, Rests, Stepped, WritesOut};
+ghost use Rattle.conn_loop.specs.Met.{IsHeld};
+ghost use Rattle.conn_loop.specs.Steps.{EndsHere, Hears, IsFree, IsServing, Progresses, Stepped, WritesOut};
 
 use crate::Host;
 use crate::needs::act;
@@ -63,7 +64,6 @@ pub fn serve<R: Drop, P: Drop, T, H: Host<R, P, T>, S: Source, K: Sink>(
 }
 
 // At its end it holds no ticket.
-#[tactic(auto, using(crate::proofs::Serving::no_ticket))]
 fn let_go<R: Drop, P: Drop, T, H: Host<R, P, T>>(conn: Conn<R, P, T>, host: &mut H)
     requires { IsFree conn }
     ensures { H.desk host.new ≡ H.desk host.old }
@@ -129,10 +129,11 @@ fn hear<R: Drop, P: Drop, T, H: Host<R, P, T>, K: Sink>(
     host: &mut H,
     output: &mut K,
 ) -> Option<ConnEnd>
-    requires { IsServing H.serves conn.old (H.desk host.old) (K.held output.old) }
+    requires runs { IsServing H.serves conn.old (H.desk host.old) (K.held output.old) }
+    requires free { IsFree conn.old }
     ensures heard { Hears piece.now result H.serves
         conn.old conn.new (H.desk host.old) (H.desk host.new) (K.held output.old) (K.held output.new) }
-    ensures rests { Rests conn.new.stage }
+    ensures free { IsFree conn.new }
     ensures later { K.faults output.old ≤ K.faults output.new }
     ensures no_read { result ≢ Some ConnEnd.ReadFault }
     ensures cause { result ≡ Some ConnEnd.WriteFault → Rose (K.faults output.old) (K.faults output.new) }
@@ -153,9 +154,10 @@ fn hear_end<R: Drop, P: Drop, T, H: Host<R, P, T>, K: Sink>(
 ) -> ConnEnd
     requires runs { IsServing H.serves conn.old (H.desk host.old) (K.held output.old) }
     requires listens { listens conn.old ≡ true }
+    requires free { IsFree conn.old }
     ensures ended { EndsHere result H.serves
         conn.old conn.new (H.desk host.old) (H.desk host.new) (K.held output.old) (K.held output.new) }
-    ensures rests { Rests conn.new.stage }
+    ensures free { IsFree conn.new }
     ensures no_read { result ≢ ConnEnd.ReadFault }
     ensures cause { result ≡ ConnEnd.WriteFault → Rose (K.faults output.old) (K.faults output.new) }
 {
@@ -173,10 +175,11 @@ fn advance<R: Drop, P: Drop, T, H: Host<R, P, T>, K: Sink>(
     host: &mut H,
     output: &mut K,
 ) -> Progress
-    requires { IsServing H.serves conn.old (H.desk host.old) (K.held output.old) }
+    requires runs { IsServing H.serves conn.old (H.desk host.old) (K.held output.old) }
+    requires held { IsHeld H.holds (H.desk host.old) conn.old }
     ensures progresses { Progresses result H.serves
         conn.old conn.new (H.desk host.old) (H.desk host.new) (K.held output.old) (K.held output.new) }
-    ensures rests { Rests conn.new.stage }
+    ensures free { IsFree conn.new }
     ensures later { K.faults output.old ≤ K.faults output.new }
     ensures cause { result ≡ Progress.Fails → Rose (K.faults output.old) (K.faults output.new) }
 {
@@ -193,10 +196,12 @@ fn step<R: Drop, P: Drop, T, H: Host<R, P, T>, K: Sink>(
     host: &mut H,
     output: &mut K,
 ) -> Option<Progress>
-    requires { IsServing H.serves conn.old (H.desk host.old) (K.held output.old) }
+    requires runs { IsServing H.serves conn.old (H.desk host.old) (K.held output.old) }
+    requires held { IsHeld H.holds (H.desk host.old) conn.old }
     ensures stepped { Stepped result H.serves
         conn.old conn.new (H.desk host.old) (H.desk host.new) (K.held output.old) (K.held output.new) }
-    ensures rests { result ≢ None → Rests conn.new.stage }
+    ensures held { IsHeld H.holds (H.desk host.new) conn.new }
+    ensures free { result ≢ None → IsFree conn.new }
     ensures fewer { result ≡ None → calls_left conn.new < calls_left conn.old }
     ensures later { K.faults output.old ≤ K.faults output.new }
     ensures cause { result ≡ Some Progress.Fails → Rose (K.faults output.old) (K.faults output.new) }

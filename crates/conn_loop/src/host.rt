@@ -1,4 +1,4 @@
-ghost use Rattle.std.specs.Prelude.{◌∷◌, [], List};
+ghost use Rattle.std.specs.Prelude.{◌≡◌, ◌∷◌, [], List};
 ghost use Rattle.conn_core.specs.Calls.{claim_of, entry_of};
 ghost use Rattle.conn_core.specs.Trace.{Begin, Enter, Finish, Leave, Look, Need, Park, Reply, Resume, Retire};
 ghost use Rattle.conn_loop.specs.Answered.{begun_replies, ended_replies, look_replies};
@@ -19,24 +19,31 @@ pub trait Host<R, P, T> {
     /// memory was found.
     ghost serves: { Desk → Need R P T → List (Reply R P T) → Desk → Type 0 };
 
+    /// On this desk the ticket may be parked, or given back.
+    ghost holds: { Desk → T → Type 0 };
+
     /// The rules of an application, and what it wants.
     fn look(&mut self, app: &[u8]) -> LookAnswer<R>
         ensures { serves (desk self.old) (Look app.now) (look_replies result) (desk self.new) };
 
     /// A row in the table of transactions.
     fn enter(&mut self, key: Key) -> EntryAnswer<T>
-        ensures { serves (desk self.old) (Enter key) (entry_of result ∷ []) (desk self.new) };
+        ensures serves { serves (desk self.old) (Enter key) (entry_of result ∷ []) (desk self.new) }
+        ensures holds { (ticket : T) → result ≡ EntryAnswer.Entered ticket → holds (desk self.new) ticket };
 
-    /// Judges a request.
+    /// Judges a request. It is what comes between a row and its parking, and takes no ticket away.
     fn begin(&mut self, rules: R, request: Request) -> BegunAnswer<P>
-        ensures { serves (desk self.old) (Begin rules request) (begun_replies result) (desk self.new) };
+        ensures serves { serves (desk self.old) (Begin rules request) (begun_replies result) (desk self.new) }
+        ensures keeps { (ticket : T) → holds (desk self.old) ticket → holds (desk self.new) ticket };
 
     /// Parks a request that passed, for so many milliseconds.
     fn park(&mut self, ticket: T, life: u64, half: P)
+        requires { holds (desk self.old) ticket }
         ensures { serves (desk self.old) (Park ticket life half) [] (desk self.new) };
 
     /// Takes a ticket back.
     fn leave(&mut self, ticket: T)
+        requires { holds (desk self.old) ticket }
         ensures { serves (desk self.old) (Leave ticket) [] (desk self.new) };
 
     /// The request that a response belongs to.

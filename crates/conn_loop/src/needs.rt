@@ -1,18 +1,20 @@
 //! What is done at each need of the host.
-ghost use Rattle.std.specs.Prelude.{◌≡◌, ◌<◌, List, Option, true, ℕ};
+ghost use Rattle.std.specs.Prelude.{◌≡◌, ◌<◌, true};
 ghost use Rattle.conn_core.specs.Calls.{At, kind_at};
 ghost use Rattle.conn_core.specs.Stands.{calls_left, Stands, State};
-ghost use Rattle.conn_loop.specs.Steps.{Acts, asks_host};
+ghost use Rattle.conn_loop.specs.Met.{Asks, asks_host, IsHeld, Meets};
 
 use crate::Host;
 use conn_core::{Conn, Need};
 
-/// Does the next thing that the connection needs of its host.
+/// Does the next thing that the connection needs of its host. What others do on the host's desk before and after is
+/// no matter of it, as long as the ticket that it holds is held there.
 pub fn act<R: Drop, P: Drop, T, H: Host<R, P, T>>(conn: &mut Conn<R, P, T>, host: &mut H)
     requires stands { (s : State R P T) × Stands conn.old s }
     requires asks { asks_host (kind_at conn.old.stage) ≡ true }
-    ensures acts { (held : Option (List ℕ)) → Acts H.serves
-        conn.old conn.new (H.desk host.old) (H.desk host.new) held held }
+    requires held { IsHeld H.holds (H.desk host.old) conn.old }
+    ensures meets { Meets H.serves conn.old conn.new (H.desk host.old) (H.desk host.new) }
+    ensures held { IsHeld H.holds (H.desk host.new) conn.new }
     ensures fewer { calls_left conn.new < calls_left conn.old }
 {
     match conn.need() {
@@ -29,9 +31,10 @@ pub fn act<R: Drop, P: Drop, T, H: Host<R, P, T>>(conn: &mut Conn<R, P, T>, host
 }
 
 fn look<R, P, T, H: Host<R, P, T>>(conn: &mut Conn<R, P, T>, host: &mut H)
-    requires { At Need.Look conn.old.broken conn.old.stage }
-    ensures acts { (held : Option (List ℕ)) → Acts H.serves
-        conn.old conn.new (H.desk host.old) (H.desk host.new) held held }
+    requires at { At Need.Look conn.old.broken conn.old.stage }
+    requires asks { Asks Need.Look H.holds (H.desk host.old) conn.old }
+    ensures meets { Meets H.serves conn.old conn.new (H.desk host.old) (H.desk host.new) }
+    ensures held { IsHeld H.holds (H.desk host.new) conn.new }
     ensures fewer { calls_left conn.new < calls_left conn.old }
 {
     let answer = host.look(conn.app());
@@ -39,9 +42,10 @@ fn look<R, P, T, H: Host<R, P, T>>(conn: &mut Conn<R, P, T>, host: &mut H)
 }
 
 fn enter<R: Drop, P, T, H: Host<R, P, T>>(conn: &mut Conn<R, P, T>, host: &mut H)
-    requires { At Need.Enter conn.old.broken conn.old.stage }
-    ensures acts { (held : Option (List ℕ)) → Acts H.serves
-        conn.old conn.new (H.desk host.old) (H.desk host.new) held held }
+    requires at { At Need.Enter conn.old.broken conn.old.stage }
+    requires asks { Asks Need.Enter H.holds (H.desk host.old) conn.old }
+    ensures meets { Meets H.serves conn.old conn.new (H.desk host.old) (H.desk host.new) }
+    ensures held { IsHeld H.holds (H.desk host.new) conn.new }
     ensures fewer { calls_left conn.new < calls_left conn.old }
 {
     let answer = host.enter(conn.take_key());
@@ -49,9 +53,10 @@ fn enter<R: Drop, P, T, H: Host<R, P, T>>(conn: &mut Conn<R, P, T>, host: &mut H
 }
 
 fn begin<R, P, T, H: Host<R, P, T>>(conn: &mut Conn<R, P, T>, host: &mut H)
-    requires { At Need.Begin conn.old.broken conn.old.stage }
-    ensures acts { (held : Option (List ℕ)) → Acts H.serves
-        conn.old conn.new (H.desk host.old) (H.desk host.new) held held }
+    requires at { At Need.Begin conn.old.broken conn.old.stage }
+    requires asks { Asks Need.Begin H.holds (H.desk host.old) conn.old }
+    ensures meets { Meets H.serves conn.old conn.new (H.desk host.old) (H.desk host.new) }
+    ensures held { IsHeld H.holds (H.desk host.new) conn.new }
     ensures fewer { calls_left conn.new < calls_left conn.old }
 {
     let (rules, request) = conn.take_begin();
@@ -60,9 +65,10 @@ fn begin<R, P, T, H: Host<R, P, T>>(conn: &mut Conn<R, P, T>, host: &mut H)
 }
 
 fn park<R, P, T, H: Host<R, P, T>>(conn: &mut Conn<R, P, T>, host: &mut H)
-    requires { At Need.Park conn.old.broken conn.old.stage }
-    ensures acts { (held : Option (List ℕ)) → Acts H.serves
-        conn.old conn.new (H.desk host.old) (H.desk host.new) held held }
+    requires at { At Need.Park conn.old.broken conn.old.stage }
+    requires asks { Asks Need.Park H.holds (H.desk host.old) conn.old }
+    ensures meets { Meets H.serves conn.old conn.new (H.desk host.old) (H.desk host.new) }
+    ensures held { IsHeld H.holds (H.desk host.new) conn.new }
     ensures fewer { calls_left conn.new < calls_left conn.old }
 {
     let (ticket, life, half) = conn.take_park();
@@ -70,9 +76,10 @@ fn park<R, P, T, H: Host<R, P, T>>(conn: &mut Conn<R, P, T>, host: &mut H)
 }
 
 fn leave<R, P, T, H: Host<R, P, T>>(conn: &mut Conn<R, P, T>, host: &mut H)
-    requires { At Need.Leave conn.old.broken conn.old.stage }
-    ensures acts { (held : Option (List ℕ)) → Acts H.serves
-        conn.old conn.new (H.desk host.old) (H.desk host.new) held held }
+    requires at { At Need.Leave conn.old.broken conn.old.stage }
+    requires asks { Asks Need.Leave H.holds (H.desk host.old) conn.old }
+    ensures meets { Meets H.serves conn.old conn.new (H.desk host.old) (H.desk host.new) }
+    ensures held { IsHeld H.holds (H.desk host.new) conn.new }
     ensures fewer { calls_left conn.new < calls_left conn.old }
 {
     let ticket = conn.take_leave();
@@ -80,9 +87,10 @@ fn leave<R, P, T, H: Host<R, P, T>>(conn: &mut Conn<R, P, T>, host: &mut H)
 }
 
 fn retire<R, P, T, H: Host<R, P, T>>(conn: &mut Conn<R, P, T>, host: &mut H)
-    requires { At Need.Retire conn.old.broken conn.old.stage }
-    ensures acts { (held : Option (List ℕ)) → Acts H.serves
-        conn.old conn.new (H.desk host.old) (H.desk host.new) held held }
+    requires at { At Need.Retire conn.old.broken conn.old.stage }
+    requires asks { Asks Need.Retire H.holds (H.desk host.old) conn.old }
+    ensures meets { Meets H.serves conn.old conn.new (H.desk host.old) (H.desk host.new) }
+    ensures held { IsHeld H.holds (H.desk host.new) conn.new }
     ensures fewer { calls_left conn.new < calls_left conn.old }
 {
     let half = conn.take_retire();
@@ -91,9 +99,10 @@ fn retire<R, P, T, H: Host<R, P, T>>(conn: &mut Conn<R, P, T>, host: &mut H)
 }
 
 fn resume<R, P, T, H: Host<R, P, T>>(conn: &mut Conn<R, P, T>, host: &mut H)
-    requires { At Need.Resume conn.old.broken conn.old.stage }
-    ensures acts { (held : Option (List ℕ)) → Acts H.serves
-        conn.old conn.new (H.desk host.old) (H.desk host.new) held held }
+    requires at { At Need.Resume conn.old.broken conn.old.stage }
+    requires asks { Asks Need.Resume H.holds (H.desk host.old) conn.old }
+    ensures meets { Meets H.serves conn.old conn.new (H.desk host.old) (H.desk host.new) }
+    ensures held { IsHeld H.holds (H.desk host.new) conn.new }
     ensures fewer { calls_left conn.new < calls_left conn.old }
 {
     let answer = host.resume(conn.take_key());
@@ -101,9 +110,10 @@ fn resume<R, P, T, H: Host<R, P, T>>(conn: &mut Conn<R, P, T>, host: &mut H)
 }
 
 fn finish<R, P, T, H: Host<R, P, T>>(conn: &mut Conn<R, P, T>, host: &mut H)
-    requires { At Need.Finish conn.old.broken conn.old.stage }
-    ensures acts { (held : Option (List ℕ)) → Acts H.serves
-        conn.old conn.new (H.desk host.old) (H.desk host.new) held held }
+    requires at { At Need.Finish conn.old.broken conn.old.stage }
+    requires asks { Asks Need.Finish H.holds (H.desk host.old) conn.old }
+    ensures meets { Meets H.serves conn.old conn.new (H.desk host.old) (H.desk host.new) }
+    ensures held { IsHeld H.holds (H.desk host.new) conn.new }
     ensures fewer { calls_left conn.new < calls_left conn.old }
 {
     let (half, response) = conn.take_finish();

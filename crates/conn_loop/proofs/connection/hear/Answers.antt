@@ -1,11 +1,17 @@
 use Rattle.conn_core.specs.Stands.{fed}
+use Rattle.conn_loop.proofs.Meeting.{free_held}
+use Rattle.conn_loop.proofs.Serving.{fed_free}
 use Rattle.conn_loop.proofs.Standing.{runs_fed}
 use Rattle.conn_loop.proofs.connection.hear.Goals as goal
 
 pub advance-requires : goal.advance-requires
 advance-requires g c =
-    let r = c.requires in
-    (r.0, r.1, fed c.args.conn.now c.args.piece.now r.2, runs_fed g.H.Host.serves r.0 _ _ r.2 c.args.piece.now _ r.1 _ c.feed.ensures.deaf r.3 (c.feed.ensures.next r.2 r.3.stands))
+    let r = c.requires.runs in
+    let stands = c.feed.ensures.next r.2 r.3.stands in
+    record {
+      runs = (r.0, r.1, fed c.args.conn.now c.args.piece.now r.2, runs_fed g.H.Host.serves r.0 _ _ r.2 c.args.piece.now _ r.1 _ c.feed.ensures.deaf r.3 stands);
+      held = free_held g.H.Host.holds _ c.feed.new.self (fed_free _ _ r.2 c.args.piece.now r.3.stands stands c.requires.free);
+    }
 
 pub returns-in-Fails-clause-heard : goal.returns-in-Fails-clause-heard
 returns-in-Fails-clause-heard g c = λ first old s r.

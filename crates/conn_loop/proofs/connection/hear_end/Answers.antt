@@ -1,11 +1,17 @@
 use Rattle.conn_core.specs.Stands.{shut}
+use Rattle.conn_loop.proofs.Meeting.{free_held}
+use Rattle.conn_loop.proofs.Serving.{shut_free}
 use Rattle.conn_loop.proofs.Standing.{never_waits, runs_shut}
 use Rattle.conn_loop.proofs.connection.hear_end.Goals as goal
 
 pub advance-requires : goal.advance-requires
 advance-requires g c =
     let r = c.requires.runs in
-    (r.0, r.1, shut c.args.conn.now r.2, runs_shut g.H.Host.serves r.0 _ _ r.2 _ r.1 _ c.end.ensures.deaf r.3 (c.end.ensures.next r.2 r.3.stands))
+    let stands = c.end.ensures.next r.2 r.3.stands in
+    record {
+      runs = (r.0, r.1, shut c.args.conn.now r.2, runs_shut g.H.Host.serves r.0 _ _ r.2 _ r.1 _ c.end.ensures.deaf r.3 stands);
+      held = free_held g.H.Host.holds _ c.end.new.self (shut_free _ _ r.2 r.3.stands stands c.requires.free);
+    }
 
 pub unreachable-requires : goal.unreachable-requires
 unreachable-requires g c =

@@ -1,4 +1,4 @@
-use Rattle.std.proofs.Common.{inl, ◌≡◌, ◌≤◌, ◌+◌, length, refl, ap, ◌∙◌, arith}
+use Rattle.std.proofs.Common.{◌≡◌, ◌≤◌, ◌+◌, length, refl, ap, ◌∙◌, arith}
 use Rattle.std.proofs.lemmas.List.{length-take-le}
 use Rattle.conn_loop.proofs.Serving.{free_at_first, opens, heard, heard_end, input_ends, read_fails, spends}
 use Rattle.conn_loop.proofs.connection.serve_pieces.Goals as goal
@@ -6,7 +6,7 @@ use Rattle.conn_loop.proofs.connection.serve_pieces.Goals as goal
 pub loop-taken-init : goal.loop-taken-init
 loop-taken-init g c = record {
   serving = opens g.H.Host.serves c.args.size (g.H.Host.desk c.args.host.now) (g.S.Source.left c.args.input.now) (g.K.Sink.held c.args.output.now) c.args.conn.now c.requires.stands c.requires.listens;
-  free = free_at_first c.args.size c.args.conn.now c.requires.stands c.requires.listens;
+  free = free_at_first c.args.size c.args.conn.now c.requires.stands;
   few = omega arith;
   reads = omega arith;
   writes = omega arith;
@@ -23,8 +23,8 @@ returns-in-End-clause-served g c =
 
 pub hear-requires : goal.hear-requires
 hear-requires g c =
-    let s = c.loop-taken.invariant.serving in
-    (g.H.Host.desk c.args.host.now, g.K.Sink.held c.args.output.now, s.state, s.runs)
+    let kept = c.loop-taken.invariant in
+    record { runs = (g.H.Host.desk c.args.host.now, g.K.Sink.held c.args.output.now, kept.serving.state, kept.serving.runs); free = kept.free }
 
 pub returns-in-Some-clause-served : goal.returns-in-Some-clause-served
 returns-in-Some-clause-served g c =
@@ -42,7 +42,7 @@ loop-taken-preserved g c =
     record {
       serving = heard g.H.Host.serves c.args.size _ _ (g.S.Source.left c.loop-taken.input) (g.S.Source.left c.read_piece.new.input) c.loop-taken.taken n c.loop-taken.conn c.hear.new.conn _ _ _ _ _
           c.read_piece.new.buffer c.split_at.result.0.now kept.serving c.in-Bytes.ensures.bytes.2 c.split_at.ensures.front count c.in_default.ensures.heard;
-      free = inl c.hear.ensures.rests;
+      free = c.hear.ensures.free;
       few = fits;
       reads = omega (arith, kept.reads, c.read_piece.ensures.later);
       writes = omega (arith, kept.writes, c.hear.ensures.later);

@@ -1,11 +1,16 @@
-use Rattle.std.proofs.Common.{refl}
-use Rattle.conn_loop.proofs.Moving.{wrote}
+use Rattle.std.proofs.Common.{◌≡◌, true, refl, rules}
+use Rattle.conn_core.specs.declared.need.Need.TheVariants as needs
+use Rattle.conn_core.specs.Calls.{kind_at, out_of}
+use Rattle.conn_loop.specs.Met.{asks_host}
+use Rattle.conn_loop.proofs.Meeting.{free_held, quiet_free}
+use Rattle.conn_loop.proofs.Moving.{acts_of, wrote}
+use Rattle.conn_loop.proofs.Serving.{written_free}
 use Rattle.conn_loop.proofs.Standing.{closes, cut_off, waits}
 use Rattle.conn_loop.proofs.connection.step.Goals as goal
 
 pub returns-in-Bytes-clause-stepped : goal.returns-in-Bytes-clause-stepped
 returns-in-Bytes-clause-stepped g c =
-    waits g.H.Host.serves c.args.conn.now (g.H.Host.desk c.args.host.now) (g.K.Sink.held c.args.output.now) (c.in-Bytes.ensures.at c.requires.2 c.requires.3.stands)
+    waits g.H.Host.serves c.args.conn.now (g.H.Host.desk c.args.host.now) (g.K.Sink.held c.args.output.now) (c.in-Bytes.ensures.at c.requires.runs.2 c.requires.runs.3.stands)
     (λ s h. c.in-Bytes.ensures.bytes s h refl)
 
 pub returns-in-Close-clause-stepped : goal.returns-in-Close-clause-stepped
@@ -18,4 +23,17 @@ returns-in-All-clause-stepped g c =
 pub returns-in-Failed-clause-stepped : goal.returns-in-Failed-clause-stepped
 returns-in-Failed-clause-stepped g c =
     cut_off g.H.Host.serves c.args.conn.now c.write.new.conn (g.H.Host.desk c.args.host.now) (g.K.Sink.held c.args.output.now) (g.K.Sink.held c.write.new.output)
-    (c.in-Write.ensures.at c.requires.2 c.requires.3.stands) c.in-Failed.ensures.writes
+    (c.in-Write.ensures.at c.requires.runs.2 c.requires.runs.3.stands) c.in-Failed.ensures.writes
+
+pub returns-in-All-clause-held : goal.returns-in-All-clause-held
+returns-in-All-clause-held g c =
+    let s = c.requires.runs.2 in
+    let stands = c.requires.runs.3.stands in
+    let conn = c.args.conn.now in
+    free_held g.H.Host.holds _ c.write.new.conn
+    (written_free conn c.write.new.conn s (out_of conn.stage) stands (c.in-All.ensures.writes.next s stands) (quiet_free conn needs.Write c.in-Write.ensures.kind refl c.in-Write.ensures.holds))
+
+pub returns-in_default-clause-stepped : goal.returns-in_default-clause-stepped
+returns-in_default-clause-stepped g c =
+    let asks : asks_host (kind_at c.args.conn.now.stage) ≡ true = search rules in
+    acts_of g.H.Host.serves c.args.conn.now c.act.new.conn _ _ (g.K.Sink.held c.args.output.now) asks c.act.ensures.meets

@@ -20,4 +20,4 @@ returns-in-Err-TooBig-clause-next g c = λ s p.
     c.refuse.ensures.next s (too_big self s c.requires.at c.requires.done big p)
 
 pub returns-in-Err-NoMemory-clause-next : goal.returns-in-Err-NoMemory-clause-next
-returns-in-Err-NoMemory-clause-next g c = λ s p. fallen c.args.self.now _ s (rw c.out_of_memory.ensures.next refl) (rw c.out_of_memory.ensures.next refl) c.out_of_memory.ensures.none p
+returns-in-Err-NoMemory-clause-next g c = λ s p. fallen c.args.self.now _ s (rw c.out_of_memory.ensures.next refl) (rw c.out_of_memory.ensures.next refl) (rw c.out_of_memory.ensures.next refl) c.out_of_memory.ensures.none p

@@ -4,7 +4,7 @@ use Rattle.conn_core.proofs.Inner.{fallen_at, take_check, take_hello}
 use Rattle.conn_core.proofs.conn.Conn.greet.Goals as goal
 
 pub returns-in-Err-NoMemory-clause-next : goal.returns-in-Err-NoMemory-clause-next
-returns-in-Err-NoMemory-clause-next g c = λ s p. fallen_at c.args.frame c.args.self.now _ s (rw c.out_of_memory.ensures.next refl) (rw c.out_of_memory.ensures.next refl) c.out_of_memory.ensures.none p
+returns-in-Err-NoMemory-clause-next g c = λ s p. fallen_at c.args.frame c.args.self.now _ s (rw c.out_of_memory.ensures.next refl) (rw c.out_of_memory.ensures.next refl) (rw c.out_of_memory.ensures.next refl) c.out_of_memory.ensures.none p
 
 pub returns-then-terms-clause-next : goal.returns-then-terms-clause-next
 returns-then-terms-clause-next g c = λ s p.

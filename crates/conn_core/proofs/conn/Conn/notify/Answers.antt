@@ -6,7 +6,7 @@ use Rattle.conn_core.proofs.Inner.{agreed_on, fallen_at, take_messages}
 use Rattle.conn_core.proofs.conn.Conn.notify.Goals as goal
 
 pub returns-in-Err-NoMemory-clause-next : goal.returns-in-Err-NoMemory-clause-next
-returns-in-Err-NoMemory-clause-next g c = λ s p. fallen_at c.args.frame c.args.self.now _ s (rw c.out_of_memory.ensures.next refl) (rw c.out_of_memory.ensures.next refl) c.out_of_memory.ensures.none p
+returns-in-Err-NoMemory-clause-next g c = λ s p. fallen_at c.args.frame c.args.self.now _ s (rw c.out_of_memory.ensures.next refl) (rw c.out_of_memory.ensures.next refl) (rw c.out_of_memory.ensures.next refl) c.out_of_memory.ensures.none p
 
 pub returns-clause-next : goal.returns-clause-next
 returns-clause-next g c = λ s p.

@@ -8,7 +8,8 @@ use Rattle.conn_core.proofs.Inner.{fallen, head_bad, head_whole}
 use Rattle.conn_core.proofs.conn.Conn.take_frame.Goals as goal
 
 pub returns-in-NoMemory-clause-done : goal.returns-in-NoMemory-clause-done
-returns-in-NoMemory-clause-done g c = λ f s p. fallen c.args.self.now _ s (rw c.out_of_memory.ensures.next refl) (rw c.out_of_memory.ensures.next refl) (rw (← c.self.view_is) c.out_of_memory.ensures.none) p
+returns-in-NoMemory-clause-done g c = λ f s p. fallen c.args.self.now _ s (rw c.out_of_memory.ensures.next refl) (rw c.out_of_memory.ensures.next refl)
+    (rw c.out_of_memory.ensures.next (ap (λ (h : ConnView g.row.R.Denot g.row.P.Denot g.row.T.Denot). h.hold) c.self.view_is)) (rw (← c.self.view_is) c.out_of_memory.ensures.none) p
 
 pub returns-in-Bad-clause-done : goal.returns-in-Bad-clause-done
 returns-in-Bad-clause-done g c = λ f s p.
