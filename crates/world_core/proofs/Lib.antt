@@ -1,0 +1,11 @@
+pub mod Elsewhere
+pub mod Histories
+pub mod Outputs
+pub mod Tickets
+pub mod Standing
+pub mod Waiting
+pub mod Meeting
+pub mod Turning
+pub mod Hearing
+pub mod Calling
+pub mod Counting
