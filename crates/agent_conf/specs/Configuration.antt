@@ -3,6 +3,7 @@ use Rattle.std.specs.Prelude.{ℕ, ◌/◌, false, [], map, None, unwrap_or, cod
 use Rattle.toml.specs.Data.{Members, get_member}
 use Rattle.agent_conf.specs.declared.conf.AppConf.{AppConf}
 use Rattle.agent_conf.specs.declared.conf.Conf.{Conf}
+use Rattle.agent_conf.specs.declared.limits.TheConstants.{ROW_LIMIT}
 use Rattle.agent_conf.specs.Document.{applications}
 use Rattle.agent_conf.specs.Values.{capacity_in, default_in, life_in, listen_in, name_in, responses_in, rules_in, shards_in, size_in, workers_in}
 
@@ -18,7 +19,8 @@ abbrev pub shards_of : Members → ℕ
 shards_of top = unwrap_or (shards_in (get_member (codes "shards") top)) 0
 
 abbrev pub capacity_of : Members → ℕ
-capacity_of top = unwrap_or (unwrap_or (capacity_in (get_member (codes "capacity") top)) None) (16384 / shards_of top)
+capacity_of top =
+    unwrap_or (unwrap_or (capacity_in (get_member (codes "capacity") top)) None) (ROW_LIMIT / shards_of top)
 
 unfoldable pub conf_of : Members → Conf
 conf_of top = record {

@@ -4,6 +4,7 @@ use Rattle.toml.specs.Data.{Data, Members, get_member}
 use Rattle.agent_conf.specs.declared.conf.Conf.{Conf}
 use Rattle.agent_conf.specs.declared.fault.ConfFault.{ConfFault}
 use Rattle.agent_conf.specs.declared.fault.ConfFault.TheVariants as faults
+use Rattle.agent_conf.specs.declared.limits.TheConstants.{ROW_LIMIT}
 use Rattle.agent_conf.specs.Applications.{application_faults}
 use Rattle.agent_conf.specs.Configuration.{capacity_of, conf_of, shards_of}
 use Rattle.agent_conf.specs.Document.{applications, document}
@@ -41,9 +42,9 @@ application_rows =
     ∷ row (codes "life") (λ v. is_some (life_in v))
     ∷ []
 
--- all shards together hold at most 16384 rows
+-- all shards together hold so many rows
 abbrev pub crowded : Members → List (List ℕ)
-crowded top = unless (nat_le (capacity_of top * shards_of top) 16384) (codes "capacity")
+crowded top = unless (nat_le (capacity_of top * shards_of top) ROW_LIMIT) (codes "capacity")
 
 unfoldable pub bad_values : Members → List (List ℕ)
 bad_values top = bad_keys top_rows top ++ crowded top ++ flat_map (bad_keys application_rows) (applications top)

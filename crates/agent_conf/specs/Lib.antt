@@ -3,7 +3,11 @@ pub mod Configuration
 pub mod Document
 pub mod Faults
 pub mod Keys
+pub mod LoadFaults
+pub mod Loading
 pub mod Opening
 pub mod Reading
+pub mod Seen
+pub mod Unread
 pub mod Values
 pub mod Words

@@ -1,6 +1,7 @@
 -- The value of each key, and what stands for it where the key is absent. `None` is a value that is bad.
 use Rattle.std.specs.Prelude.{ℕ, suc, pos, Bool, true, false, ◌&&◌, cond, nat_le, List, [], ◌∷◌, length, codes, Option, Some, None, option_and_then, option_map}
 use Rattle.std.specs.List.{list_all}
+use Rattle.agent_conf.specs.declared.limits.TheConstants.{APP_LIMIT, DEFAULT_LIFE, DEFAULT_SHARDS, DEFAULT_SIZE, DEFAULT_WORKERS, FILE_NAME_LIMIT, LISTEN_LIMIT, MAX_LIFE, MAX_SIZE, MIN_NAME_BYTE, MIN_SIZE, NAME_LIMIT, ROW_LIMIT, SHARD_LIMIT, WORKER_LIMIT}
 use Rattle.toml.specs.Data.{Data, string, integer, array, table, Items, no_items, item, as_bool}
 
 -- a whole number from the one to the other
@@ -14,16 +15,16 @@ text_in least most (string text) = cond (nat_le least (length text) && nat_le (l
 text_in least most other = None
 
 abbrev pub is_plain_byte : ℕ → Bool
-is_plain_byte b = nat_le 32 b
+is_plain_byte b = nat_le MIN_NAME_BYTE b
 
--- a text of at most 256 bytes, none of them below 32
+-- a name of an application
 abbrev pub plain_text : Data → Option (List ℕ)
-plain_text value = option_and_then (λ text. cond (list_all is_plain_byte text) (Some text) None) (text_in 0 256 value)
+plain_text value = option_and_then (λ text. cond (list_all is_plain_byte text) (Some text) None) (text_in 0 NAME_LIMIT value)
 
 abbrev pub texts_in : Items → Option (List (List ℕ))
 texts_in no_items = Some []
 texts_in (item value rest) =
-    option_and_then (λ text. option_map (λ texts. text ∷ texts) (texts_in rest)) (text_in 1 4096 value)
+    option_and_then (λ text. option_map (λ texts. text ∷ texts) (texts_in rest)) (text_in 1 FILE_NAME_LIMIT value)
 
 -- what is read, or else what stands where the key is absent
 abbrev pub where_absent : {A : Type 0} → A → (Data → Option A) → Option Data → Option A
@@ -37,20 +38,20 @@ maybe read value = where_absent None (λ v. option_map (λ a. Some a) (read v)) 
 -- the top's keys
 
 abbrev pub size_in : Option Data → Option ℕ
-size_in value = where_absent 16380 (number_in 256 65536) value
+size_in value = where_absent DEFAULT_SIZE (number_in MIN_SIZE MAX_SIZE) value
 
 -- none: the limit of all shards, divided by their count
 abbrev pub capacity_in : Option Data → Option (Option ℕ)
-capacity_in value = maybe (number_in 1 16384) value
+capacity_in value = maybe (number_in 1 ROW_LIMIT) value
 
 abbrev pub shards_in : Option Data → Option ℕ
-shards_in value = where_absent 1 (number_in 1 64) value
+shards_in value = where_absent DEFAULT_SHARDS (number_in 1 SHARD_LIMIT) value
 
 abbrev pub workers_in : Option Data → Option ℕ
-workers_in value = where_absent 64 (number_in 1 64) value
+workers_in value = where_absent DEFAULT_WORKERS (number_in 1 WORKER_LIMIT) value
 
 abbrev pub listen_in : Option Data → Option (List ℕ)
-listen_in value = where_absent (codes "127.0.0.1:9000") (text_in 1 256) value
+listen_in value = where_absent (codes "127.0.0.1:9000") (text_in 1 LISTEN_LIMIT) value
 
 abbrev pub default_in : Option Data → Option (Option (List ℕ))
 default_in value = maybe plain_text value
@@ -64,10 +65,10 @@ abbrev pub count : Items → ℕ
 count no_items = 0
 count (item value rest) = suc (count rest)
 
--- at most 64 tables
+-- tables, as many as there may be applications
 abbrev pub app_is_good : Option Data → Bool
 app_is_good None = true
-app_is_good (Some (array items)) = are_tables items && nat_le (count items) 64
+app_is_good (Some (array items)) = are_tables items && nat_le (count items) APP_LIMIT
 app_is_good (Some other) = false
 
 -- the keys of an application
@@ -84,4 +85,4 @@ responses_in value = where_absent false as_bool value
 
 -- in milliseconds
 abbrev pub life_in : Option Data → Option ℕ
-life_in value = where_absent 60000 (number_in 1 86400000) value
+life_in value = where_absent DEFAULT_LIFE (number_in 1 MAX_LIFE) value

@@ -8,6 +8,7 @@ ghost use Rattle.agent_conf.specs.Reading.{Gives, Reads};
 ghost use Rattle.agent_conf.specs.Values.{life_in, name_in};
 
 use crate::fault::bad_value;
+use crate::limits::{DEFAULT_LIFE, MAX_LIFE};
 use crate::values::{flag, number, plain, texts};
 use crate::{AppConf, ConfFault};
 use std::alloc::Global;
@@ -55,6 +56,6 @@ fn name(alloc: Global, app: &Table) -> Result<Bytes, ConfFault>
 fn life(alloc: Global, app: &Table) -> Result<u64, ConfFault>
     ensures { Reads result (life_in (get_member (codes "life") (table_view app.now))) (codes "life") }
 {
-    let life = number(alloc, app, "life", 1, 86_400_000)?;
-    Ok(u64::from(life.unwrap_or(60_000)))
+    let life = number(alloc, app, "life", 1, MAX_LIFE)?;
+    Ok(u64::from(life.unwrap_or(DEFAULT_LIFE)))
 }

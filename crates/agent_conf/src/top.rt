@@ -4,10 +4,15 @@ ghost use Rattle.toml.specs.View.{items_view, table_view, view};
 ghost use Rattle.agent_conf.specs.Configuration.{conf_of};
 ghost use Rattle.agent_conf.specs.Faults.{bad_values};
 ghost use Rattle.agent_conf.specs.Reading.{Gives, Reads, unless};
+ghost use Rattle.agent_conf.specs.declared.limits.TheConstants.{ROW_LIMIT};
 ghost use Rattle.agent_conf.specs.Values.{app_is_good, are_tables, count, listen_in, shards_in, size_in, workers_in};
 
 use crate::application::applications;
 use crate::fault::bad_value;
+use crate::limits::{
+    APP_LIMIT, DEFAULT_SHARDS, DEFAULT_SIZE, DEFAULT_WORKERS, LISTEN_LIMIT, MAX_SIZE, MIN_SIZE,
+    ROW_LIMIT, SHARD_LIMIT, WORKER_LIMIT,
+};
 use crate::table::{members, value_at};
 use crate::values::{number, plain, text};
 use crate::{Conf, ConfFault};
@@ -15,21 +20,18 @@ use std::alloc::Global;
 use toml::{Table, Value};
 use waf_plain::Bytes;
 
-// How many requests all shards together may hold.
-const ROWS: u32 = 16384;
-
 // The configuration of a document, or its first bad value.
 pub(crate) fn values(alloc: Global, top: &Table) -> Result<Conf, ConfFault>
     ensures { Gives result (bad_values (table_view top.now)) (conf_of (table_view top.now)) }
 {
     let size = size(alloc, top)?;
-    let capacity = number(alloc, top, "capacity", 1, ROWS)?;
+    let capacity = number(alloc, top, "capacity", 1, ROW_LIMIT)?;
     let shards = shards(alloc, top)?;
     let workers = workers(alloc, top)?;
     let listen = listen(alloc, top)?;
     let fallback = plain(alloc, top, "default")?;
     check_app(alloc, top)?;
-    let capacity = capacity.unwrap_or(ROWS / shards);
+    let capacity = capacity.unwrap_or(ROW_LIMIT / shards);
     check_rows(alloc, capacity, shards)?;
     let apps = applications(alloc, members(top))?;
     Ok(Conf {
@@ -46,29 +48,29 @@ pub(crate) fn values(alloc: Global, top: &Table) -> Result<Conf, ConfFault>
 fn size(alloc: Global, top: &Table) -> Result<u32, ConfFault>
     ensures { Reads result (size_in (get_member (codes "size") (table_view top.now))) (codes "size") }
 {
-    let size = number(alloc, top, "size", 256, 65536)?;
-    Ok(size.unwrap_or(16380))
+    let size = number(alloc, top, "size", MIN_SIZE, MAX_SIZE)?;
+    Ok(size.unwrap_or(DEFAULT_SIZE))
 }
 
 fn shards(alloc: Global, top: &Table) -> Result<u32, ConfFault>
     ensures value { Reads result (shards_in (get_member (codes "shards") (table_view top.now))) (codes "shards") }
     ensures least { IfOk result (λ n. 1 ≤ n) }
 {
-    let shards = number(alloc, top, "shards", 1, 64)?;
-    Ok(shards.unwrap_or(1))
+    let shards = number(alloc, top, "shards", 1, SHARD_LIMIT)?;
+    Ok(shards.unwrap_or(DEFAULT_SHARDS))
 }
 
 fn workers(alloc: Global, top: &Table) -> Result<u32, ConfFault>
     ensures { Reads result (workers_in (get_member (codes "workers") (table_view top.now))) (codes "workers") }
 {
-    let workers = number(alloc, top, "workers", 1, 64)?;
-    Ok(workers.unwrap_or(64))
+    let workers = number(alloc, top, "workers", 1, WORKER_LIMIT)?;
+    Ok(workers.unwrap_or(DEFAULT_WORKERS))
 }
 
 fn listen(alloc: Global, top: &Table) -> Result<Bytes, ConfFault>
     ensures { Reads result (listen_in (get_member (codes "listen") (table_view top.now))) (codes "listen") }
 {
-    match text(alloc, top, "listen", 1, 256)? {
+    match text(alloc, top, "listen", 1, LISTEN_LIMIT)? {
         Some(listen) => Ok(listen),
         None => Ok(Bytes::copy(alloc, b"127.0.0.1:9000")?),
     }
@@ -83,13 +85,13 @@ fn check_app(alloc: Global, top: &Table) -> Result<(), ConfFault>
     }
 }
 
-// A list of at most 64 tables.
+// A list of tables, and not too many.
 fn is_good(app: &Value) -> bool
     ensures { result ≡ app_is_good (Some (view app.now)) }
 {
     match app.as_array() {
         None => false,
-        Some(items) => are_tables(items.as_slice()) && count(items.as_slice()) <= 64,
+        Some(items) => are_tables(items.as_slice()) && count(items.as_slice()) <= APP_LIMIT,
     }
 }
 
@@ -111,9 +113,9 @@ fn are_tables(items: &[Value]) -> bool
 }
 
 fn check_rows(alloc: Global, capacity: u32, shards: u32) -> Result<(), ConfFault>
-    ensures { Gives result (unless (nat_le (capacity * shards) 16384) (codes "capacity")) tt }
+    ensures { Gives result (unless (nat_le (capacity * shards) ROW_LIMIT) (codes "capacity")) tt }
 {
-    if u64::from(capacity) * u64::from(shards) <= u64::from(ROWS) {
+    if u64::from(capacity) * u64::from(shards) <= u64::from(ROW_LIMIT) {
         Ok(())
     } else {
         Err(bad_value(alloc, "capacity"))

@@ -7,6 +7,7 @@ ghost use Rattle.agent_conf.specs.Values.{is_plain_byte, maybe, number_in, plain
 
 use crate::ConfFault;
 use crate::fault::bad_value;
+use crate::limits::{FILE_NAME_LIMIT, MIN_NAME_BYTE, NAME_LIMIT};
 use crate::table::value_at;
 use std::alloc::Global;
 use toml::{Table, Value};
@@ -72,7 +73,7 @@ fn text_in(value: &Value, least: usize, most: usize) -> Option<&[u8]>
     }
 }
 
-// A text of at most 256 bytes, none of them below 32, if the key is there.
+// A name of an application, if the key is there.
 pub(crate) fn plain(alloc: Global, table: &Table, key: &str) -> Result<Option<Bytes>, ConfFault>
     ensures { Reads result (maybe plain_text (get_member key.now (table_view table.now))) key.now }
 {
@@ -88,7 +89,7 @@ pub(crate) fn plain(alloc: Global, table: &Table, key: &str) -> Result<Option<By
 fn plain_text(value: &Value) -> Option<&[u8]>
     ensures { option_map (λ t. t.now) result ≡ plain_text (view value.now) }
 {
-    match text_in(value, 0, 256) {
+    match text_in(value, 0, NAME_LIMIT) {
         Some(text) if is_plain(text) => Some(text),
         _ => None,
     }
@@ -103,7 +104,7 @@ fn is_plain(text: &[u8]) -> bool
 fn is_plain_byte(byte: u8) -> bool
     ensures { result ≡ is_plain_byte byte }
 {
-    byte >= 32
+    byte >= MIN_NAME_BYTE
 }
 
 // True or false, and `absent` where the key is not there.
@@ -119,7 +120,7 @@ pub(crate) fn flag(alloc: Global, table: &Table, key: &str, absent: bool) -> Res
     }
 }
 
-// A list of texts of 1 to 4096 bytes.
+// A list of names of files.
 pub(crate) fn texts(alloc: Global, table: &Table, key: &str) -> Result<Seq<Bytes>, ConfFault>
     ensures { Reads result (rules_in (get_member key.now (table_view table.now))) key.now }
 {
@@ -137,7 +138,7 @@ fn texts_of(alloc: Global, items: &[Value], key: &str) -> Result<Seq<Bytes>, Con
 {
     let mut texts = Seq::new(alloc);
     for item in items {
-        match text_in(item, 1, 4096) {
+        match text_in(item, 1, FILE_NAME_LIMIT) {
             Some(text) => texts.push(Bytes::copy(alloc, text)?)?,
             None => return Err(bad_value(alloc, key)),
         }
