@@ -271,8 +271,9 @@ def arguments(table, pairs):
     return bad, (values[b"id"][1] if bad != b"id" else None)
 
 
-# A whole connection of `once`: every application has the rules, and responses are not awaited.
-def answer_message(name, pairs, judge):
+# A whole connection of `once`: every application has the rules, and its responses are judged by them. `waiting` has
+# the application and the identifier of each request that passed. No rule here looks at responses.
+def answer_message(name, pairs, judge, waiting):
     if name == b"coraza-req":
         bad, values = arguments(REQUEST, pairs)
     elif name == b"coraza-res":
@@ -283,10 +284,17 @@ def answer_message(name, pairs, judge):
         head = [(b"id", ("text", values))] if values is not None else []
         return head + [(b"data", ("text", bad)), (b"error", ("uint32", 5))]
     head = [(b"id", ("text", values[b"id"]))]
+    key = values.get(b"app", b""), values[b"id"]
     if name == b"coraza-res":
-        return head + [(b"error", ("uint32", 4))]
+        if key not in waiting:
+            return head + [(b"error", ("uint32", 4))]
+        waiting.remove(key)
+        return head
+    if key in waiting:
+        return head + [(b"error", ("uint32", 2))]
     verdict = judge(values)
     if verdict is None:
+        waiting.add(key)
         return head
     act, status, location, rule = verdict
     data = [(b"data", ("text", location))] if act == b"redirect" else []
@@ -296,7 +304,7 @@ def answer_message(name, pairs, judge):
 
 def connection(stream, judge, own_size=16380):
     """The exit status of `once` and what it writes."""
-    out, limit, greeted = b"", own_size, False
+    out, limit, greeted, waiting = b"", own_size, False, set()
 
     def leave(status):
         return (0 if status == 0 else 1), out + agent_disconnect(status)
@@ -328,7 +336,7 @@ def connection(stream, judge, own_size=16380):
                 messages = messages_of(payload)
             except Invalid:
                 return leave(4)
-            actions = [a for name, pairs in messages for a in answer_message(name, pairs, judge)]
+            actions = [a for name, pairs in messages for a in answer_message(name, pairs, judge, waiting)]
             ack = ack_bytes(number, frame, actions)
             if len(ack) - 4 > limit:
                 return leave(3)

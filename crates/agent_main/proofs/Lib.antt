@@ -1,5 +1,2 @@
-mod Checks
-mod Moving
-mod Serving
-mod Standing
+mod Tables
 mod Telling

@@ -1,10 +1,8 @@
 pub mod Check
-pub mod Connection
 pub mod FaultLines
 pub mod CommandFaults
 pub mod Judge
 pub mod Listings
 pub mod Report
 pub mod Run
-pub mod Steps
 pub mod Words

@@ -1,17 +1,31 @@
 -- The words of the command line, without the program's name.
-use Rattle.std.specs.Prelude.{ℕ, ◌&&◌, not, List, [], ◌∷◌, length, Option, Some, None, codes, if◌then◌else◌, ◌==◌}
+use Rattle.std.specs.Prelude.{ℕ, Bool, true, false, List, [], ◌∷◌, length, codes, if◌then◌else◌, ◌==◌}
 use Rattle.std.specs.Str.{bytes_eq}
+use Rattle.agent_main.specs.declared.words.Command.{Command}
+use Rattle.agent_main.specs.declared.words.Command.TheVariants.{Check, Once, Other}
 
--- the name behind a command: that word, and one more that is not empty
-abbrev pub named_by : List ℕ → List (List ℕ) → Option (List ℕ)
-named_by command (word ∷ name ∷ []) = if bytes_eq word command && not (length name == 0) then Some name else None
-named_by command other = None
+-- the command that a word is, over a file of that name
+abbrev pub named : List ℕ → List ℕ → Command (List ℕ)
+named word name =
+    if bytes_eq word (codes "check") then Check name
+    else (if bytes_eq word (codes "once") then Once name else Other)
 
-abbrev pub conf_named : List (List ℕ) → Option (List ℕ)
-conf_named words = named_by (codes "check") words
+-- what the words ask for: a command takes its own word, and one more that is not empty
+unfoldable pub command_of : List (List ℕ) → Command (List ℕ)
+command_of (word ∷ name ∷ []) = if length name == 0 then Other else named word name
+command_of other = Other
 
-abbrev pub rules_named : List (List ℕ) → Option (List ℕ)
-rules_named words = named_by (codes "once") words
+-- the command with its name in another form
+abbrev pub renamed : {A B : Type 0} → (A → B) → Command A → Command B
+renamed view (Check name) = Check (view name)
+renamed view (Once name) = Once (view name)
+renamed view Other = Other
+
+-- whether a command takes anything of the input
+abbrev pub takes_input : Command (List ℕ) → Bool
+takes_input (Check name) = false
+takes_input (Once name) = true
+takes_input Other = false
 
 abbrev pub usage_line : List ℕ
 usage_line = codes "usage: yefontsila check CONF | once RULES\n"

@@ -1,3 +1,10 @@
+ghost use Rattle.std.specs.Prelude.{◌≡◌, true};
+ghost use Rattle.agent_conf.specs.LoadFaults.{is_told};
+ghost use Rattle.agent_main.specs.CommandFaults.{IsFaultOf};
+
+use crate::fault_lines::fault_line;
+use agent_conf::LoadFault;
+use std::alloc::Global;
 use waf_plain::{Bytes, NoMemory};
 
 // Why a command comes to no result.
@@ -17,5 +24,26 @@ impl From<NoMemory> for CommandFault {
 
     fn from(_: NoMemory) -> CommandFault {
         CommandFault::NoMemory
+    }
+}
+
+// What a fault of loading comes to, under the name of what was loaded.
+pub fn command_fault(alloc: Global, name: &[u8], fault: LoadFault) -> CommandFault
+    ensures { IsFaultOf result name.now fault }
+{
+    match fault {
+        LoadFault::NoMemory => CommandFault::NoMemory,
+        fault if fault.is_read_fault() => CommandFault::ReadFault,
+        fault => in_line(alloc, name, &fault),
+    }
+}
+
+fn in_line(alloc: Global, name: &[u8], fault: &LoadFault) -> CommandFault
+    requires { is_told fault.now ≡ true }
+    ensures { IsFaultOf result name.now fault.now }
+{
+    match fault_line(alloc, name, fault) {
+        Ok(line) => CommandFault::Line(line),
+        Err(NoMemory) => CommandFault::NoMemory,
     }
 }

@@ -1,71 +1,121 @@
-ghost use Rattle.std.specs.Prelude.{◌≡◌, ◌<◌, Option, List, ℕ};
+//! What the one connection of `once` asks for: the rules, the table of transactions and the judge.
+ghost use Rattle.std.specs.Prelude.{◌≡◌, IfOk};
 ghost use Rattle.std.specs.Arc.{arc_value};
-ghost use Rattle.conn_core.specs.Calls.{At};
-ghost use Rattle.conn_core.specs.Stands.{calls_left};
-ghost use Rattle.agent_main.specs.Judge.{judged, Tells};
+ghost use Rattle.conn_core.specs.Calls.{claim_of, entry_of};
+ghost use Rattle.conn_loop.specs.Answered.{begun_replies, ended_replies};
+ghost use Rattle.hall_core.specs.Step.{IsNew};
+ghost use Rattle.agent_main.specs.Judge.{claimed, ended, entered, Given, judged};
+ghost use Rattle.agent_main.specs.declared.judge.TheConstants.{CAPACITY, SHARD};
 
-use crate::verdicts::{begun, retired};
-use conn_core::{BegunAnswer, Conn, EndedAnswer, EntryAnswer, LookAnswer, Need, Settings};
+use crate::verdicts::{begun, finished, retired};
+use conn_core::{BegunAnswer, EndedAnswer, EntryAnswer, LookAnswer, Settings};
+use conn_loop::Host;
+use hall_core::{Claim, Entry, Hall, Key, Ticket};
 use sec_compile::Ruleset;
 use std::alloc::Global;
 use std::sync::Arc;
-use tx_core::{Begun, Half};
+use tx_core::{Begun, Ended, Half};
 use waf_plain::NoMemory;
-use web_parts::Request;
+use web_parts::{Request, Response};
 
-// How long a request would be parked, in milliseconds, if its response were judged.
+// How long a request waits for its response, in milliseconds.
 pub const LIFE: u64 = 60000;
+
+// The table has one shard, and room for so many requests.
+pub const SHARD: u32 = 0;
+
+pub const CAPACITY: u32 = 1000;
 
 // What stands for the rules, which every application has.
 #[derive(Clone, Copy, Debug, PartialEq, Eq)]
 pub struct TheRules {}
 
-// No request is parked, so that nobody makes one.
-#[derive(Clone, Copy, Debug, PartialEq, Eq)]
-pub struct Ticket {}
-
-// A connection under some rules.
-pub type OnceConn = Conn<TheRules, Half, Ticket>;
-
-ghost use Rattle.agent_main.specs.Steps.{Acts, Runs, ConnState};
-
-// Every application has the rules, and its responses are not judged.
-pub fn look(conn: &mut OnceConn)
-    requires { At Need.Look conn.old.broken conn.old.stage }
-    ensures acts { (rules : _) (held : Option (List ℕ)) → Acts rules conn.old conn.new held held }
-    ensures fewer { calls_left conn.new < calls_left conn.old }
-{
-    conn.give_look(LookAnswer::Found {
-        rules: TheRules {},
-        settings: Settings {
-            responses: false,
-            life: LIFE,
-        },
-    });
+#[derive(Drop)]
+pub struct OnceHost {
+    alloc: Global,
+    rules: Arc<Ruleset, Global>,
+    hall: Hall<Half>,
 }
 
-// There is no room in a table that nobody needs.
-pub fn enter(conn: &mut OnceConn)
-    requires { At Need.Enter conn.old.broken conn.old.stage }
-    ensures acts { (rules : _) (held : Option (List ℕ)) → Acts rules conn.old conn.new held held }
-    ensures fewer { calls_left conn.new < calls_left conn.old }
-{
-    let _ = conn.take_key();
-    conn.give_entry(EntryAnswer::Full);
+impl OnceHost {
+    // Under these rules, with an empty table.
+    pub fn new(alloc: Global, rules: Ruleset) -> Result<OnceHost, NoMemory>
+        ensures rules { IfOk result (λ host. arc_value host.rules ≡ rules) }
+        ensures table { IfOk result (λ host. IsNew SHARD CAPACITY host.hall) }
+    {
+        let rules = Arc::new(alloc, rules)?;
+        let hall = Hall::new(alloc, SHARD, CAPACITY)?;
+        Ok(OnceHost { alloc, rules, hall })
+    }
 }
 
-// The request is judged by the rules.
-pub fn begin(alloc: Global, rules: &Arc<Ruleset, Global>, conn: &mut OnceConn)
-    requires { At Need.Begin conn.old.broken conn.old.stage }
-    ensures acts { (held : Option (List ℕ)) → Acts (arc_value rules.now) conn.old conn.new held held }
-    ensures fewer { calls_left conn.new < calls_left conn.old }
-{
-    let (_, request) = conn.take_begin();
-    conn.give_begun(judged(alloc, rules, request));
+impl Host<TheRules, Half, Ticket> for OnceHost {
+    ghost use Rattle.std.specs.Arc.{arc_value};
+    ghost use Rattle.agent_main.specs.Judge.{Desk, holds, serves};
+
+    ghost Desk = { Desk };
+
+    ghost desk = { λ h. record { rules = arc_value h.rules; table = h.hall } };
+
+    ghost serves = { serves };
+
+    ghost holds = { holds };
+
+    fn look(&mut self, _app: &[u8]) -> LookAnswer<TheRules> {
+        LookAnswer::Found {
+            rules: TheRules {},
+            settings: Settings {
+                responses: true,
+                life: LIFE,
+            },
+        }
+    }
+
+    fn enter(&mut self, key: Key) -> EntryAnswer<Ticket> {
+        entry_answer(self.hall.enter(key))
+    }
+
+    fn begin(&mut self, _rules: TheRules, request: Request) -> BegunAnswer<Half> {
+        begun_answer(self.alloc, &self.rules, request)
+    }
+
+    // There is no clock, and each moment is 0: nothing expires.
+    fn park(&mut self, ticket: Ticket, life: u64, half: Half) {
+        self.hall.park(ticket, life, half);
+    }
+
+    fn leave(&mut self, ticket: Ticket) {
+        self.hall.leave(ticket);
+    }
+
+    fn resume(&mut self, key: Key) -> Option<Half> {
+        claimed_half(self.hall.resume(&key))
+    }
+
+    fn finish(&mut self, half: Half, response: Response) -> EndedAnswer {
+        ended_answer(self.alloc, half, response)
+    }
+
+    // The last phase of a request whose response is not judged; nobody asks for its lines.
+    fn retire(&mut self, half: Half) -> bool {
+        retired(self.alloc, half).is_ok()
+    }
 }
 
-fn judged(alloc: Global, rules: &Arc<Ruleset, Global>, request: Request) -> BegunAnswer<Half>
-    ensures { Tells result (judged (arc_value rules.now) request) }
+fn entry_answer(entry: Entry) -> EntryAnswer<Ticket>
+    ensures reply { entry_of result ≡ entered entry }
+    ensures ticket { (ticket : _) → result ≡ EntryAnswer.Entered ticket → entry ≡ Entry.Entered ticket }
+{
+    match entry {
+        Entry::Entered(ticket) => EntryAnswer::Entered(ticket),
+        Entry::IdInUse(_) => EntryAnswer::IdInUse,
+        Entry::Full(_) => EntryAnswer::Full,
+        Entry::Worn(_) => EntryAnswer::Worn,
+    }
+}
+
+fn begun_answer(alloc: Global, rules: &Arc<Ruleset, Global>, request: Request) -> BegunAnswer<Half>
+    ensures { Given (begun_replies result) (judged (arc_value rules.now) request) }
 {
     match begun(alloc, rules, request) {
         Ok(Begun::Interrupted { verdict, .. }) => BegunAnswer::Interrupted(verdict),
@@ -74,50 +124,21 @@ fn judged(alloc: Global, rules: &Arc<Ruleset, Global>, request: Request) -> Begu
     }
 }
 
-// Nothing is kept of what would be parked.
-pub fn park(conn: &mut OnceConn)
-    requires { At Need.Park conn.old.broken conn.old.stage }
-    ensures acts { (rules : _) (held : Option (List ℕ)) → Acts rules conn.old conn.new held held }
-    ensures fewer { calls_left conn.new < calls_left conn.old }
+fn claimed_half(claim: Claim<Half>) -> Option<Half>
+    ensures { claim_of result ≡ claimed claim }
 {
-    let (_, _, half) = conn.take_park();
-    drop(half);
+    match claim {
+        Claim::Resumed { value, .. } => Some(value),
+        Claim::NotParked => None,
+    }
 }
 
-pub fn leave(conn: &mut OnceConn)
-    requires { At Need.Leave conn.old.broken conn.old.stage }
-    ensures acts { (rules : _) (held : Option (List ℕ)) → Acts rules conn.old conn.new held held }
-    ensures fewer { calls_left conn.new < calls_left conn.old }
+// By the rules of the half itself.
+fn ended_answer(alloc: Global, half: Half, response: Response) -> EndedAnswer
+    ensures { Given (ended_replies result) (ended half response) }
 {
-    let _ = conn.take_leave();
-}
-
-// A request that passed has its last phase, whose lines nobody asks for.
-pub fn retire(alloc: Global, conn: &mut OnceConn)
-    requires { At Need.Retire conn.old.broken conn.old.stage }
-    ensures acts { (rules : _) (held : Option (List ℕ)) → Acts rules conn.old conn.new held held }
-    ensures fewer { calls_left conn.new < calls_left conn.old }
-{
-    let half = conn.take_retire();
-    conn.give_retired(retired(alloc, half).is_ok());
-}
-
-// No request is parked.
-pub fn resume(conn: &mut OnceConn)
-    requires { At Need.Resume conn.old.broken conn.old.stage }
-    ensures acts { (rules : _) (held : Option (List ℕ)) → Acts rules conn.old conn.new held held }
-    ensures fewer { calls_left conn.new < calls_left conn.old }
-{
-    let _ = conn.take_key();
-    conn.give_claim(None);
-}
-
-pub fn finish(conn: &mut OnceConn)
-    requires { At Need.Finish conn.old.broken conn.old.stage }
-    ensures acts { (rules : _) (held : Option (List ℕ)) → Acts rules conn.old conn.new held held }
-    ensures fewer { calls_left conn.new < calls_left conn.old }
-{
-    let (half, response) = conn.take_finish();
-    drop((half, response));
-    conn.give_ended(EndedAnswer::Verdict(None));
+    match finished(alloc, half, response) {
+        Ok(Ended { verdict, .. }) => EndedAnswer::Verdict(verdict),
+        Err(NoMemory) => EndedAnswer::NoMemory,
+    }
 }

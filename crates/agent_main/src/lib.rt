@@ -1,8 +1,8 @@
 //! The commands of the agent over whatever gives it words, files, input and output.
 //!
 //! `offline_main(alloc, words, &mut files, &mut input, &mut output)` does what the words ask for, and answers the
-//! exit status. What `once` writes for a connection stands in `specs/Connection.antt`, what `check` prints in
-//! `specs/Check.antt`.
+//! exit status. What `once` writes for a connection stands in `specs/Run.antt` and `specs/Judge.antt`, what
+//! `check` prints in `specs/Check.antt`.
 #![tactic(auto)]
 
 mod check;
@@ -14,7 +14,6 @@ mod listings;
 mod offline;
 mod once;
 mod report;
-mod serve;
 mod verdicts;
 mod words;
 

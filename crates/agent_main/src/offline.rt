@@ -1,4 +1,4 @@
-ghost use Rattle.std.specs.Prelude.{◌≡◌, ◌⊎◌, Err, IfSome, List, None, Ok, Some, ℕ};
+ghost use Rattle.std.specs.Prelude.{◌≡◌, ◌⊎◌, Err, IfSome, List, Ok, false, true, ℕ};
 ghost use Rattle.waf_io.specs.Counts.{Rose};
 ghost use Rattle.agent_main.specs.Check.{checked};
 ghost use Rattle.agent_main.specs.Listings.{listing_under};
@@ -6,13 +6,13 @@ ghost use Rattle.agent_main.specs.Report.{Answers, FilesFailFirst, Prints, Repor
 ghost use Rattle.sec_ast.specs.declared.listing.Listing.{Listing};
 ghost use Rattle.agent_main.specs.Run.{Exits};
 ghost use Rattle.agent_main.specs.declared.exit_status.TheConstants.{OTHER_WORDS, READ_FAULT, REFUSED, UNFINISHED, WRITE_FAULT};
-ghost use Rattle.agent_main.specs.Words.{conf_named, rules_named, usage_line};
+ghost use Rattle.agent_main.specs.Words.{command_of, takes_input, usage_line};
 
 use crate::check::check;
 use crate::exit_status::OTHER_WORDS;
 use crate::once::once;
 use crate::report::report;
-use crate::words::named_by;
+use crate::words::{Command, command_of};
 use std::alloc::Global;
 use waf_io::{Files, Sink, Source};
 use waf_plain::{Bytes, Seq};
@@ -37,46 +37,44 @@ pub fn offline_main<F: Files, S: Source, K: Sink>(
     input: &mut S,
     output: &mut K,
 ) -> u8
-    // Words that are not taken
-    ensures usage { conf_named words ≡ None → rules_named words ≡ None
+    // Other words
+    ensures usage { command_of words ≡ Command.Other
         → Reports result OTHER_WORDS usage_line (K.held output.old) (K.held output.new) }
-    ensures taken { result ≡ OTHER_WORDS → (conf_named words ≡ None) × (rules_named words ≡ None) }
+    ensures taken { result ≡ OTHER_WORDS → command_of words ≡ Command.Other }
 
-    // A check, where the files are told: the listings of all applications, or the line of the first fault
-    ensures checked { IfSome (F.content files.old) (λ told. (name : List ℕ) → conf_named words ≡ Some name
+    // check, where the files are told: the listings of all applications, or the line of the first fault
+    ensures checked { IfSome (F.content files.old) (λ told. (name : List ℕ) → command_of words ≡ Command.Check name
         → Answers result (checked told name)
         (F.faults files.old) (F.faults files.new) (K.held output.old) (K.held output.new)) }
 
-    // Rules that are refused, where the files are told
+    // once, where the files are told and the rules are refused
     ensures refused { IfSome (F.content files.old) (λ told. (name line : List ℕ) →
-        rules_named words ≡ Some name → listing_under told name ≡ Err line
+        command_of words ≡ Command.Once name → listing_under told name ≡ Err line
         → Prints result REFUSED line
         (F.faults files.old) (F.faults files.new) (K.held output.old) (K.held output.new)
         × (S.left input.new ≡ S.left input.old)) }
-    ensures unread { result ≡ REFUSED → S.left input.new ≡ S.left input.old }
 
-    // The connection under the rules, where files and input are told
+    // once, where files and input are told and the rules are not refused: the connection under them
     ensures served { IfSome (F.content files.old) (λ told. IfSome (S.left input.old) (λ bytes.
-        (name : List ℕ) (rules : Listing) → rules_named words ≡ Some name → listing_under told name ≡ Ok rules
+        (name : List ℕ) (rules : Listing) → command_of words ≡ Command.Once name → listing_under told name ≡ Ok rules
         → Exits result rules bytes (S.left input.new) (K.held output.old) (K.held output.new)
         ⊎ FilesFailFirst result (F.faults files.old) (F.faults files.new)
         (S.left input.old) (S.left input.new) (K.held output.old) (K.held output.new))) }
 
-    // Only a connection takes anything of the input
-    ensures untouched { rules_named words ≡ None → S.left input.new ≡ S.left input.old }
+    // What takes nothing of the input
+    ensures untouched { takes_input (command_of words) ≡ false → S.left input.new ≡ S.left input.old }
+    ensures unread { result ≡ REFUSED → S.left input.new ≡ S.left input.old }
 
     // Causes, whatever is told
-    ensures once_alone { result ≡ UNFINISHED → conf_named words ≡ None }
+    ensures once_alone { result ≡ UNFINISHED → takes_input (command_of words) ≡ true }
     ensures read_fault { result ≡ READ_FAULT
         → Rose (F.faults files.old) (F.faults files.new) ⊎ Rose (S.faults input.old) (S.faults input.new) }
     ensures write_fault { result ≡ WRITE_FAULT → Rose (K.faults output.old) (K.faults output.new) }
 {
-    if let Some(name) = named_by(b"check", words.as_slice()) {
-        return check(alloc, name, files, output);
-    }
-    match named_by(b"once", words.as_slice()) {
-        Some(name) => once(alloc, name, files, input, output),
-        None => report(
+    match command_of(words.as_slice()) {
+        Command::Check(name) => check(alloc, name, files, output),
+        Command::Once(name) => once(alloc, name, files, input, output),
+        Command::Other => report(
             output,
             b"usage: yefontsila check CONF | once RULES\n",
             OTHER_WORDS,

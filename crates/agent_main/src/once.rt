@@ -8,15 +8,19 @@ ghost use Rattle.sec_ast.specs.declared.listing.Listing.{Listing};
 
 use crate::command_fault::CommandFault;
 use crate::exit_status::{DONE, OUT_OF_MEMORY, READ_FAULT, REFUSED, UNFINISHED, WRITE_FAULT};
+use crate::judge::OnceHost;
 use crate::listings::rules_of;
 use crate::report::report;
-use crate::serve::{ConnEnd, serve};
 use conn_core::Closing;
+use conn_loop::{ConnEnd, serve};
 use sec_compile::Ruleset;
 use spop_frame::status;
 use std::alloc::Global;
-use std::sync::Arc;
 use waf_io::{Files, Sink, Source};
+use waf_plain::NoMemory;
+
+// The longest frame that the agent offers to take.
+pub const OWN_SIZE: u32 = 16380;
 
 // Serves the input by the rules of that name.
 pub fn once<F: Files, S: Source, K: Sink>(
@@ -57,9 +61,9 @@ fn under<S: Source, K: Sink>(alloc: Global, rules: Ruleset, input: &mut S, outpu
     ensures read_fault { result ≡ READ_FAULT → Rose (S.faults input.old) (S.faults input.new) }
     ensures write_fault { result ≡ WRITE_FAULT → Rose (K.faults output.old) (K.faults output.new) }
 {
-    match Arc::new(alloc, rules) {
-        Ok(rules) => status_of(serve(alloc, &rules, input, output)),
-        Err(_) => OUT_OF_MEMORY,
+    match OnceHost::new(alloc, rules) {
+        Ok(mut host) => status_of(serve(alloc, OWN_SIZE, &mut host, input, output)),
+        Err(NoMemory) => OUT_OF_MEMORY,
     }
 }
 
