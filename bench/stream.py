@@ -1,5 +1,6 @@
 #!/usr/bin/env python3
-"""Writes what HAProxy would say on one connection: its offer, and then so many requests, one NOTIFY each.
+"""Writes what HAProxy would say on one connection: its HELLO, and then so many requests, one NOTIFY each, with a
+response after each that nothing speaks against.
 
     stream.py COUNT [--kind hit|plain|form|mixed] [--bytes N]
 
@@ -82,6 +83,18 @@ def request(identifier, method, path, query, headers, body, source="192.0.2.1"):
     ])
 
 
+def response(identifier):
+    """The six arguments of a response, as examples/coraza.cfg has HAProxy send them."""
+    return message(b"coraza-res", [
+        (b"app", string(b"")),
+        (b"id", string(identifier)),
+        (b"version", string(b"1.1")),
+        (b"status", int32(200)),
+        (b"headers", string(b"Content-Type: text/html\r\n\r\n")),
+        (b"body", binary(b"")),
+    ])
+
+
 HOST = b"Host: example.org"
 AGENT = b"User-Agent: test"
 FORM = b"Content-Type: application/x-www-form-urlencoded"
@@ -117,6 +130,8 @@ def main():
     for place in range(options.count):
         kind = KINDS[place % len(KINDS)] if options.kind == "mixed" else options.kind
         out.write(frame(3, place + 1, 1, asked(kind, place, options.size)))
+        if kind != "hit":
+            out.write(frame(3, place + 1, 2, response(b"t%d" % place)))
 
 
 if __name__ == "__main__":
