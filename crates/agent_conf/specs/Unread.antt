@@ -26,4 +26,5 @@ LoadOpens told name fault = After (conf_in (told name)) (λ conf. AppsOpen told 
 
 -- where rules could not be read, this holds of the fault
 abbrev pub WhereUnread : {A : Type 0} → Result A LoadFault → (Fault → Type 0) → Type 0
-WhereUnread result holds = (fault : Fault) → result ≡ Err (faults.Rules fault) → fault.kind ≡ kinds.ReadFault → holds fault
+WhereUnread result holds =
+    (fault : Fault) → result ≡ Err (faults.Rules fault) → fault.kind ≡ kinds.ReadFault → holds fault

@@ -19,7 +19,8 @@ is_plain_byte b = nat_le MIN_NAME_BYTE b
 
 -- a name of an application
 abbrev pub plain_text : Data → Option (List ℕ)
-plain_text value = option_and_then (λ text. cond (list_all is_plain_byte text) (Some text) None) (text_in 0 NAME_LIMIT value)
+plain_text value =
+    option_and_then (λ text. cond (list_all is_plain_byte text) (Some text) None) (text_in 0 NAME_LIMIT value)
 
 abbrev pub texts_in : Items → Option (List (List ℕ))
 texts_in no_items = Some []

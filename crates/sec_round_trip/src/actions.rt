@@ -30,7 +30,8 @@ pub fn names_of_transforms()
 /// The round trip of the actions of a later link, where there are any.
 pub fn printed_link_actions_are_read()
     ensures { (link : Link) (follows : Bool) → IsTail link → has_pieces (link_pieces link follows) ≡ true
-        → actions_in stands.Later (join_with_byte COMMA (link_pieces link follows)) ≡ Ok (with_link link follows no_acts) }
+        → actions_in stands.Later (join_with_byte COMMA (link_pieces link follows))
+        ≡ Ok (with_link link follows no_acts) }
 {
     names_of_transforms();
     transform_of_its_name();

@@ -51,7 +51,8 @@ module _ {O C R : Type 0} where
   OwnsAll p = own_of p ≡ seen_of p
 
 module _ {O C R : Type 0} (may : O → C → Type 0) (allows : O → C → R → Type 0) (after : O → C → R → O) where
-  -- q is the pass p after this call: what p had seen goes on to a legal history that ends with the call, which is one more of its own
+  -- q is the pass p after this call: what p had seen goes on to a legal history that ends with the call, which is
+  -- one more of its own
   pub record Extends (start : O) (p : Pass O C R) (call : C) (reply : R) (q : Pass O C R) : Type 0 where
     pub log : List (Entry C R)
     pub begins : Begins (seen_of p) log
@@ -63,7 +64,8 @@ module _ {O C R : Type 0} (may : O → C → Type 0) (allows : O → C → R →
     pub share : share_of q ≡ share_of p
     pub whole : share_of q ≡ all_shares → OwnsAll q
 
-  -- q is the pass p after it took in o: one of the two had seen what the other had, and maybe more, and no call was both's
+  -- q is the pass p after it took in o: one of the two had seen what the other had, and maybe more, and no call was
+  -- both's
   pub record Joins (start : O) (p o q : Pass O C R) : Type 0 where
     pub prefix : Begins (seen_of p) (seen_of o) ⊎ Begins (seen_of o) (seen_of p)
     pub seen : seen_of q ≡ longer (seen_of p) (seen_of o)

@@ -1,4 +1,5 @@
--- For the tests: a source of numbers. Its state is the next number, and a call answers it, or nothing where the numbers are used up.
+-- For the tests: a source of numbers. Its state is the next number, and a call answers it, or nothing where the
+-- numbers are used up.
 use Rattle.std.specs.Prelude.{◌≡◌, ℕ, ◌+◌, ◌<◌, ◌≤◌, if◌then◌else◌, nat_eq, nat_lt, List, [], ◌∷◌, Option, Some, None}
 use Rattle.turn_lock.specs.declared.history.Entry.{Entry}
 use Rattle.turn_lock.specs.History.{left_by, Legal}

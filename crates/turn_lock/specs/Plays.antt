@@ -37,7 +37,8 @@ module _ {O C R : Type 0} (may : O → C → Type 0) (allows : O → C → R →
     Looked st m n m' = (t : ℕ) → m.0.stage ≡ Waiting t
         → (n ≡ t % 18446744073709551616 → HasCome m.0 m') × (n ≢ t % 18446744073709551616 → m' ≡ m)
 
-  -- nothing changed, the last join put parts of one history together, and what was seen is legal. With all shares each call seen is the pass's own
+  -- nothing changed, the last join put parts of one history together, and what was seen is legal. With all shares
+  -- each call seen is the pass's own
   abbrev pub Confirmed : Step (Option (Held O C R)) → Me (Option (Held O C R)) (View O C R) → ℕ
       → Me (Option (Held O C R)) (View O C R) → Type 0
   Confirmed st m n m' = (m' ≡ m) × JoinedParts m.0
