@@ -1,13 +1,14 @@
 -- Needs that a host was asked for, one after another.
 use Rattle.std.proofs.Common.{◌≡◌, inl, inr, ℕ, Bool, true, false, List, [], ◌∷◌, ◌++◌, length, refl, sym, ◌∙◌, ap, subst, append_assoc}
 use Rattle.std.proofs.lemmas.List.{append-nil}
-use Rattle.conn_core.specs.Trace.{Need, Needs, Look, Replies}
+use Rattle.conn_core.specs.Trace.{Need, Needs, Look, Replies, Retire}
 use Rattle.conn_loop.specs.Answered.{Step, Answered, Hosted, IsAsked, Starved, Takes, due, in_full}
 
 module _ {R P T : Type 0} where
   asked_more : (unreplied asked : Needs R P T) (n : Need R P T) → IsAsked unreplied asked → IsAsked (unreplied ++ n ∷ []) (asked ++ n ∷ [])
   asked_more unreplied asked n (inl is) = inl (ap (λ (l : Needs R P T). l ++ n ∷ []) is)
-  asked_more unreplied asked n (inr is) = inr (is.0, ap (λ (l : Needs R P T). l ++ n ∷ []) is.1)
+  asked_more unreplied asked n (inr (inl is)) = inr (inl (is.0, ap (λ (l : Needs R P T). l ++ n ∷ []) is.1))
+  asked_more unreplied asked n (inr (inr is)) = inr (inr (is.0, ap (λ (l : Needs R P T). l ++ n ∷ []) is.1))
 
 module _ {R P T Desk : Type 0} where
   pub answered_both : (serves : Step R P T Desk) (a b c : Desk) (xs ys : Needs R P T) (rs ss : Replies R P T)
@@ -75,8 +76,22 @@ module _ {R P T Desk : Type 0} where
     mid = b;
     answered = x;
     asked = Look app ∷ [];
-    asked_is = inr (app, refl);
+    asked_is = inr (inl (app, refl));
     unanswered = answered_one serves b c (Look app) [] step;
+  }
+
+  -- a Retire that memory ran out at, which the host did nothing for
+  pub starved_at_retire : (serves : Step R P T Desk) (a b : Desk) (past : Needs R P T) (replies : Replies R P T) (half : P)
+      → Answered (in_full serves) a past replies b → Starved serves a (past ++ Retire half ∷ []) replies b
+  starved_at_retire serves a b past replies half x = record {
+    replied = past;
+    unreplied = Retire half ∷ [];
+    past_is = refl;
+    mid = b;
+    answered = x;
+    asked = [];
+    asked_is = inr (inr (half, refl));
+    unanswered = (refl, refl);
   }
 
   -- a need after that, to which no reply is due

@@ -22,7 +22,7 @@ use Rattle.conn_core.specs.Stands.{ConnView, Holds, Stands, StandsAs, State, is_
 use Rattle.conn_core.specs.Trace.{Need, Needs, Bytes, Look, Enter, Begin, Park, Leave, Resume, Finish, Retire, Write, Close, Replies, held_by}
 use Rattle.conn_core.proofs.Steps.{spent_append, tickets_append}
 use Rattle.conn_loop.specs.Answered.{Step, begun_replies, due, ended_replies, look_replies}
-use Rattle.conn_loop.specs.Met.{IsHeld, Met, kind_of, met}
+use Rattle.conn_loop.specs.Met.{IsHeld, IsMet, kind_of, met}
 use Rattle.conn_loop.specs.Steps.{IsFree}
 
 -- ---- tickets
@@ -236,38 +236,45 @@ module _ {R P T Desk : Type 0} where
 
   -- of a connection that was not out of memory
   meets : (serves : Step R P T Desk) (c d : ConnView R P T) (a b : Desk) (s : State R P T) (n : Need R P T) (mine : Replies R P T) → kind_of n ≡ kind_at c.stage → c.broken ≡ false
-      → serves a n mine b → (length mine ≡ due n) ⊎ ((mine ≡ []) × (d.broken ≡ true)) → Stands d (met n mine s) → Met serves c d a b s
+      → serves a n mine b → (length mine ≡ due n) ⊎ ((mine ≡ []) × (d.broken ≡ true)) → Stands d (met n mine s) → IsMet serves c d a b s
   meets serves c d a b s n mine kind whole step replied stands =
-      record { need = n; kind = kind; mine = mine; step = step; replied = replied; stays = λ e. absurd (cc (whole, e)); stands = stands }
+      inl (record { need = n; kind = kind; mine = mine; step = step; replied = replied; stays = λ e. absurd (cc (whole, e)); stands = stands })
 
   pub meets_look : (serves : Step R P T Desk) (c d : ConnView R P T) (a b : Desk) (s : State R P T) (app : List ℕ) (answer : lookings.LookAnswer R) → needs.Look ≡ kind_at c.stage → c.broken ≡ false
-      → serves a (Look app) (look_replies answer) b → (answer ≡ looks.NoMemory → d.broken ≡ true) → Stands d (met (Look app) (look_replies answer) s) → Met serves c d a b s
+      → serves a (Look app) (look_replies answer) b → (answer ≡ looks.NoMemory → d.broken ≡ true) → Stands d (met (Look app) (look_replies answer) s) → IsMet serves c d a b s
   meets_look serves c d a b s app (looks.Found rules settings) kind whole step breaks stands = meets serves c d a b s (Look app) _ kind whole step (inl refl) stands
   meets_look serves c d a b s app looks.UnknownApp kind whole step breaks stands = meets serves c d a b s (Look app) _ kind whole step (inl refl) stands
   meets_look serves c d a b s app looks.NoMemory kind whole step breaks stands = meets serves c d a b s (Look app) _ kind whole step (inr (refl, breaks refl)) stands
 
   pub meets_full : (serves : Step R P T Desk) (c d : ConnView R P T) (a b : Desk) (s : State R P T) (n : Need R P T) (mine : Replies R P T) → kind_of n ≡ kind_at c.stage → c.broken ≡ false
-      → serves a n mine b → length mine ≡ due n → Stands d (met n mine s) → Met serves c d a b s
+      → serves a n mine b → length mine ≡ due n → Stands d (met n mine s) → IsMet serves c d a b s
   meets_full serves c d a b s n mine kind whole step full stands = meets serves c d a b s n mine kind whole step (inl full) stands
 
   pub meets_begin : (serves : Step R P T Desk) (c d : ConnView R P T) (a b : Desk) (s : State R P T) (rules : R) (request : Request) (answer : beginnings.BegunAnswer P) → needs.Begin ≡ kind_at c.stage
       → c.broken ≡ false → serves a (Begin rules request) (begun_replies answer) b → (answer ≡ beguns.NoMemory → d.broken ≡ true)
-      → Stands d (met (Begin rules request) (begun_replies answer) s) → Met serves c d a b s
+      → Stands d (met (Begin rules request) (begun_replies answer) s) → IsMet serves c d a b s
   meets_begin serves c d a b s rules request (beguns.Interrupted verdict) kind whole step breaks stands = meets serves c d a b s (Begin rules request) _ kind whole step (inl refl) stands
   meets_begin serves c d a b s rules request (beguns.Goes half) kind whole step breaks stands = meets serves c d a b s (Begin rules request) _ kind whole step (inl refl) stands
   meets_begin serves c d a b s rules request beguns.NoMemory kind whole step breaks stands = meets serves c d a b s (Begin rules request) _ kind whole step (inr (refl, breaks refl)) stands
 
   pub meets_finish : (serves : Step R P T Desk) (c d : ConnView R P T) (a b : Desk) (s : State R P T) (half : P) (response : Response) (answer : endings.EndedAnswer) → needs.Finish ≡ kind_at c.stage
       → c.broken ≡ false → serves a (Finish half response) (ended_replies answer) b → (answer ≡ ends.NoMemory → d.broken ≡ true)
-      → Stands d (met (Finish half response) (ended_replies answer) s) → Met serves c d a b s
+      → Stands d (met (Finish half response) (ended_replies answer) s) → IsMet serves c d a b s
   meets_finish serves c d a b s half response (ends.Verdict verdict) kind whole step breaks stands = meets serves c d a b s (Finish half response) _ kind whole step (inl refl) stands
   meets_finish serves c d a b s half response ends.NoMemory kind whole step breaks stands = meets serves c d a b s (Finish half response) _ kind whole step (inr (refl, breaks refl)) stands
 
   -- one to which no reply is due
   pub meets_alone : (serves : Step R P T Desk) (c d : ConnView R P T) (a b : Desk) (s : State R P T) (n : Need R P T) → kind_of n ≡ kind_at c.stage → (c.broken ≡ true → d.broken ≡ true)
-      → serves a n [] b → due n ≡ 0 → Stands d (met n [] s) → Met serves c d a b s
+      → serves a n [] b → due n ≡ 0 → Stands d (met n [] s) → IsMet serves c d a b s
   meets_alone serves c d a b s n kind stays step none stands =
-      record { need = n; kind = kind; mine = []; step = step; replied = inl (sym none); stays = λ e. (stays e, none); stands = stands }
+      inl (record { need = n; kind = kind; mine = []; step = step; replied = inl (sym none); stays = λ e. (stays e, none); stands = stands })
+
+  pub meets_retire : (serves : Step R P T Desk) (c d : ConnView R P T) (a b : Desk) (s : State R P T) (half : P) (memory : Bool) → needs.Retire ≡ kind_at c.stage → c.broken ≡ false
+      → (memory ≡ true → serves a (Retire half) [] b) → (memory ≡ false → b ≡ a) → (memory ≡ false → d.broken ≡ true) → Stands d (served (Retire half) s) → IsMet serves c d a b s
+  meets_retire serves c d a b s half true kind whole step kept breaks stands =
+      meets serves c d a b s (Retire half) [] kind whole (step refl) (inl refl) (alone_stands d s (Retire half) refl stands)
+  meets_retire serves c d a b s half false kind whole step kept breaks stands =
+      inr (record { kind = kind; desk = kept refl; whole = whole; broken = breaks refl; half = half; stands = stands })
 
 -- no ticket is among these
 pub no_ticket_looked : (R P T : Type 0) (answer : lookings.LookAnswer R) → tickets_in (look_replies {R = R} {P = P} {T = T} answer) ≡ []

@@ -12,9 +12,9 @@ use Rattle.conn_loop.specs.declared.connection.ConnEnd.TheVariants as endings_of
 use Rattle.conn_loop.specs.declared.connection.Progress as progress
 use Rattle.conn_loop.specs.Answered.{Step, Hosted, Starved, Takes, bytes_of, due, in_full, writes}
 use Rattle.conn_loop.specs.Ends.{HasNeeds}
-use Rattle.conn_loop.specs.Met.{Meets, Met, asks_host, kind_of, met}
+use Rattle.conn_loop.specs.Met.{Forgone, Meets, Met, asks_host, kind_of, met}
 use Rattle.conn_loop.specs.Steps.{Acts, Fails, GoesTo, Heard, Progresses, Runs, Same, Written, end_of}
-use Rattle.conn_loop.proofs.Answering.{hosted_by, hosted_more, in_full_at, starved_at_look, starved_by}
+use Rattle.conn_loop.proofs.Answering.{hosted_by, hosted_more, in_full_at, starved_at_look, starved_at_retire, starved_by}
 use Rattle.conn_loop.proofs.Meeting.{after, look_or, met_full}
 
 module _ {R P T : Type 0} where
@@ -114,9 +114,29 @@ module _ {R P T Desk : Type 0} where
         | inr none ↦ none_given c.broken serves first c d s a b old held refl m asked none.0 none.1 r
       ]
 
+  -- there was no memory to end a request
+  forgone : (serves : Step R P T Desk) (first : Desk) (c d : ConnView R P T) (s : State R P T) (a b : Desk) (old held : Option (List ℕ))
+      → Forgone c d a b s → Runs serves first c s a old held → GoesTo serves first s d b old held
+  forgone serves first c d s a b old held f r = record {
+    state = served (Retire f.half) s;
+    runs = record {
+      stands = f.stands;
+      hosted =
+          subst (λ (e : Bool). Hosted e serves first (s.past ++ Retire f.half ∷ []) s.replies b) (sym f.broken)
+          (subst (λ (z : Desk). Starved serves first (s.past ++ Retire f.half ∷ []) s.replies z) (sym f.desk)
+          (starved_at_retire serves first a s.past s.replies f.half (in_full_at c.broken serves first a s.past s.replies f.whole r.hosted)));
+      added = silent s (Retire f.half) old held refl r.added;
+    };
+    same = record { size = refl; input = refl; ended = refl };
+  }
+
   -- a need of the host was met
   pub acts_of : (serves : Step R P T Desk) (c d : ConnView R P T) (a b : Desk) (held : Option (List ℕ)) → asks_host (kind_at c.stage) ≡ true → Meets serves c d a b → Acts serves c d a b held held
-  acts_of serves c d a b held asks m = λ first old s r. goes serves first c d s a b old held asks (m s r.stands) r
+  acts_of serves c d a b held asks m = λ first old s r.
+      elim (m s r.stands) [
+        | inl met ↦ goes serves first c d s a b old held asks met r
+        | inr none ↦ forgone serves first c d s a b old held none r
+      ]
 
   -- one to which no reply is due, whole or out of memory
   unanswered : (serves : Step R P T Desk) (first : Desk) (c d : ConnView R P T) (s : State R P T) (n : Need R P T) (a b : Desk) (old before now : Option (List ℕ))

@@ -2,6 +2,7 @@
 use Rattle.std.proofs.Common.{◌≡◌, inl, inr, ℕ, ◌+◌, Bool, true, false, List, [], ◌∷◌, ◌++◌, length, take, drop, map, Option, Some, None, refl, sym, ◌∙◌, ap, subst, append_assoc, cond}
 use Rattle.std.proofs.lemmas.List.{append-nil, length-append, take-append-drop}
 use Rattle.std.specs.Option.{IfSome}
+use Rattle.waf_io.specs.Counts.{one_more}
 use Rattle.waf_io.specs.Source.{HandsOver}
 use Rattle.waf_io.proofs.Adds.{adds_none}
 use Rattle.spop_hello.specs.Frames.{disconnect}
@@ -14,7 +15,7 @@ use Rattle.conn_loop.specs.declared.connection.ConnEnd as end
 use Rattle.conn_loop.specs.declared.connection.ConnEnd.TheVariants as ends
 use Rattle.conn_loop.specs.declared.connection.TheConstants.{MOST_BYTES}
 use Rattle.conn_loop.specs.Answered.{Step, Hosted}
-use Rattle.conn_loop.specs.Ends.{HasNeeds, IsTaken, Serves, Whole, around}
+use Rattle.conn_loop.specs.Ends.{HasEnded, HasNeeds, IsTaken, Serves, Whole, around}
 use Rattle.conn_loop.specs.Steps.{EndsHere, Fails, Heard, Hears, IsFree, Runs}
 use Rattle.conn_loop.proofs.Answering.{hosted_full, in_full_at}
 use Rattle.conn_loop.proofs.Meeting.{served_held, still_held, tickets}
@@ -128,23 +129,25 @@ module _ {R P T Desk : Type 0} where
     trace_is = sym (λ i. trace (s.size_is i) s.state.input (s.waits.on i) s.state.replies) ∙ s.waits.trace_is;
   }
 
-  pub read_fails : (serves : Step R P T Desk) (size : ℕ) (first : Desk) (from left after : Option (List ℕ)) (taken : ℕ) (conn : ConnView R P T) (desk : Desk) (old now : Option (List ℕ))
-      → after ≡ left → Serving serves size first from left taken conn desk old now → Serves ends.ReadFault serves size (around first from old) (around desk after now)
-  read_fails serves size first from left after taken conn desk old now same s = record {
+  pub read_fails : (serves : Step R P T Desk) (size : ℕ) (first : Desk) (from left after : Option (List ℕ)) (taken : ℕ) (conn : ConnView R P T) (desk : Desk) (old now : Option (List ℕ)) (ends_old ends_new : ℕ)
+      → after ≡ left → ends_new ≡ ends_old → Serving serves size first from left taken conn desk old now → Serves ends.ReadFault serves size (around first from ends_old old) (around desk after ends_new now)
+  read_fails serves size first from left after taken conn desk old now ends_old ends_new same on s = record {
     taken = s.state.input;
     rest = known left;
     is_taken = still_taken from left after s.state.input (known left) same s.told;
+    goes_on = on;
     past = s.state.past;
     whole = whole_now serves size first from left taken conn desk old now s;
     added = s.runs.added;
   }
 
-  pub spends : (serves : Step R P T Desk) (size : ℕ) (first : Desk) (from left : Option (List ℕ)) (taken : ℕ) (conn : ConnView R P T) (desk : Desk) (old now : Option (List ℕ))
-      → taken ≡ MOST_BYTES → Serving serves size first from left taken conn desk old now → Serves ends.Spent serves size (around first from old) (around desk left now)
-  spends serves size first from left taken conn desk old now all s = record {
+  pub spends : (serves : Step R P T Desk) (size : ℕ) (first : Desk) (from left : Option (List ℕ)) (taken : ℕ) (conn : ConnView R P T) (desk : Desk) (old now : Option (List ℕ)) (ends_old ends_new : ℕ)
+      → taken ≡ MOST_BYTES → ends_new ≡ ends_old → Serving serves size first from left taken conn desk old now → Serves ends.Spent serves size (around first from ends_old old) (around desk left ends_new now)
+  spends serves size first from left taken conn desk old now ends_old ends_new all on s = record {
     taken = s.state.input;
     rest = known left;
     is_taken = s.told;
+    goes_on = on;
     many = s.count ∙ all;
     past = s.state.past;
     whole = whole_now serves size first from left taken conn desk old now s;
@@ -152,13 +155,15 @@ module _ {R P T Desk : Type 0} where
   }
 
   -- a write failed
-  fails_in : (serves : Step R P T Desk) (size : ℕ) (first : Desk) (s : State R P T) (from left : Option (List ℕ)) (rest : List ℕ) (desk : Desk) (old now : Option (List ℕ))
-      → s.size ≡ size → IsTaken from left s.input rest → Fails serves first s desk old now → Serves ends.WriteFault serves size (around first from old) (around desk left now)
-  fails_in serves size first s from left rest desk old now size_is taken f = record {
+  fails_in : (serves : Step R P T Desk) (size : ℕ) (first : Desk) (s : State R P T) (from left : Option (List ℕ)) (rest : List ℕ) (desk : Desk) (old now : Option (List ℕ)) (ends_old ends_new : ℕ)
+      → s.size ≡ size → IsTaken from left s.input rest → HasEnded s.ended rest ends_old ends_new → Fails serves first s desk old now
+      → Serves ends.WriteFault serves size (around first from ends_old old) (around desk left ends_new now)
+  fails_in serves size first s from left rest desk old now ends_old ends_new size_is taken over f = record {
     taken = s.input;
     rest = rest;
     is_taken = taken;
     ended = s.ended;
+    has_ended = over;
     past = f.past;
     prefix = f.prefix;
     unwritten = f.rest;
@@ -169,14 +174,21 @@ module _ {R P T Desk : Type 0} where
 
 -- the connection closed
 module _ {R P T Desk : Type 0} (serves : Step R P T Desk) (size : ℕ) (first : Desk) (d : ConnView R P T) (t : State R P T) (how : closing.Closing) (from left : Option (List ℕ)) (desk : Desk)
-    (old now : Option (List ℕ)) (size_is : t.size ≡ size) (runs : Runs serves first d t desk old now) (closes : Closes d t how) where
-  whole : (rest : List ℕ) → IsTaken from left t.input rest → d.broken ≡ false → trace t.size (t.input ++ rest) true t.replies ≡ t.past ++ Close how ∷ []
-      → Serves (ends.Closed how) serves size (around first from old) (around desk left now)
-  whole rest taken e is = inl (record {
+    (old now : Option (List ℕ)) (ends_old ends_new : ℕ) (size_is : t.size ≡ size) (runs : Runs serves first d t desk old now) (closes : Closes d t how) where
+  whole : (rest : List ℕ) → IsTaken from left t.input rest → HasEnded t.ended rest ends_old ends_new → d.broken ≡ false → trace t.size (t.input ++ rest) true t.replies ≡ t.past ++ Close how ∷ []
+      → Serves (ends.Closed how) serves size (around first from ends_old old) (around desk left ends_new now)
+  whole rest taken over e is = inl (record {
     taken = t.input;
     rest = rest;
     is_taken = taken;
+    ended = t.ended;
+    has_ended = over;
     past = t.past;
+    heard = record {
+      replies = t.replies;
+      answered = in_full_at d.broken serves first desk t.past t.replies e runs.hosted;
+      trace_is = sym (λ i. trace (size_is i) t.input t.ended t.replies) ∙ closes.plain e;
+    };
     whole = record {
       replies = t.replies;
       answered = in_full_at d.broken serves first desk t.past t.replies e runs.hosted;
@@ -185,8 +197,8 @@ module _ {R P T Desk : Type 0} (serves : Step R P T Desk) (size : ℕ) (first : 
     added = runs.added;
   })
 
-  broken : (rest : List ℕ) → IsTaken from left t.input rest → d.broken ≡ true → Serves (ends.Closed how) serves size (around first from old) (around desk left now)
-  broken rest taken e =
+  broken : (rest : List ℕ) → IsTaken from left t.input rest → HasEnded t.ended rest ends_old ends_new → d.broken ≡ true → Serves (ends.Closed how) serves size (around first from ends_old old) (around desk left ends_new now)
+  broken rest taken over e =
       let b = closes.broke e in
       let is_13 : how ≡ closings.Ended 13 = broken_is_13 _ t.replies t.past how b in
       inr (
@@ -196,6 +208,7 @@ module _ {R P T Desk : Type 0} (serves : Step R P T Desk) (size : ℕ) (first : 
           rest = rest;
           is_taken = taken;
           ended = t.ended;
+          has_ended = over;
           past = t.past;
           broken = record {
             replies = t.replies;
@@ -208,24 +221,28 @@ module _ {R P T Desk : Type 0} (serves : Step R P T Desk) (size : ℕ) (first : 
         },
       )
 
-  on_piece : (b : Bool) → d.broken ≡ b → t.ended ≡ false → (rest : List ℕ) → IsTaken from left t.input rest → Serves (ends.Closed how) serves size (around first from old) (around desk left now)
-  on_piece false e goes rest taken = whole rest taken e (closes.whatever e goes rest true)
-  on_piece true e goes rest taken = broken rest taken e
+  on_piece : (b : Bool) → d.broken ≡ b → t.ended ≡ false → (rest : List ℕ) → IsTaken from left t.input rest → HasEnded t.ended rest ends_old ends_new
+      → Serves (ends.Closed how) serves size (around first from ends_old old) (around desk left ends_new now)
+  on_piece false e goes rest taken over = whole rest taken over e (closes.whatever e goes rest true)
+  on_piece true e goes rest taken over = broken rest taken over e
 
-  pub closes_on_piece : t.ended ≡ false → (rest : List ℕ) → IsTaken from left t.input rest → Serves (ends.Closed how) serves size (around first from old) (around desk left now)
-  closes_on_piece goes rest taken = on_piece d.broken refl goes rest taken
+  pub closes_on_piece : t.ended ≡ false → ends_new ≡ ends_old → (rest : List ℕ) → IsTaken from left t.input rest
+      → Serves (ends.Closed how) serves size (around first from ends_old old) (around desk left ends_new now)
+  closes_on_piece goes on rest taken = on_piece d.broken refl goes rest taken (subst (λ (b : Bool). HasEnded b rest ends_old ends_new) (sym goes) on)
 
-  at_end : (b : Bool) → d.broken ≡ b → t.ended ≡ true → IsTaken from left t.input [] → Serves (ends.Closed how) serves size (around first from old) (around desk left now)
-  at_end false e over taken = whole [] taken e ((λ i. trace t.size (append-nil t.input i) (sym over i) t.replies) ∙ closes.plain e)
-  at_end true e over taken = broken [] taken e
+  at_end : (b : Bool) → d.broken ≡ b → t.ended ≡ true → IsTaken from left t.input [] → HasEnded t.ended [] ends_old ends_new
+      → Serves (ends.Closed how) serves size (around first from ends_old old) (around desk left ends_new now)
+  at_end false e is taken over = whole [] taken over e ((λ i. trace t.size (append-nil t.input i) (sym is i) t.replies) ∙ closes.plain e)
+  at_end true e is taken over = broken [] taken over e
 
-  pub closes_at_end : t.ended ≡ true → IsTaken from left t.input [] → Serves (ends.Closed how) serves size (around first from old) (around desk left now)
-  closes_at_end over taken = at_end d.broken refl over taken
+  pub closes_at_end : t.ended ≡ true → ends_new ≡ one_more ends_old → IsTaken from left t.input []
+      → Serves (ends.Closed how) serves size (around first from ends_old old) (around desk left ends_new now)
+  closes_at_end is counted taken = at_end d.broken refl is taken (subst (λ (b : Bool). HasEnded b [] ends_old ends_new) (sym is) (refl, counted))
 
 -- a piece comes
 module _ {R P T Desk : Type 0} (serves : Step R P T Desk) (size : ℕ) (first : Desk) (from left after : Option (List ℕ)) (taken n : ℕ) (conn new : ConnView R P T) (desk next : Desk)
     (old mid now : Option (List ℕ)) (buffer piece : List ℕ) (s : Serving serves size first from left taken conn desk old mid) (hands : HandsOver n buffer left after)
-    (is : piece ≡ take n buffer) (count : length piece ≡ n) where
+    (is : piece ≡ take n buffer) (count : length piece ≡ n) (ends_old ends_new : ℕ) (on : ends_new ≡ ends_old) where
   abbrev fed_at : State R P T
   fed_at = record { size = s.state.size; input = s.state.input ++ piece; ended = s.state.ended; replies = s.state.replies; past = s.state.past }
 
@@ -249,40 +266,40 @@ module _ {R P T Desk : Type 0} (serves : Step R P T Desk) (size : ℕ) (first : 
         told = subst (λ (l : List ℕ). IsTaken from after l (known after)) (sym g.same.input) took;
       }
 
-  ended_by : (how : end.ConnEnd) → Heard (Some how) serves first fed_at new next old now → Serves how serves size (around first from old) (around next after now)
+  ended_by : (how : end.ConnEnd) → Heard (Some how) serves first fed_at new next old now → Serves how serves size (around first from ends_old old) (around next after ends_new now)
   ended_by (ends.Closed how) x =
       let g = x.0 in
-      closes_on_piece serves size first new g.state how from after next old now (g.same.size ∙ s.size_is) g.runs x.1 (g.same.ended ∙ s.waits.on) (known after)
+      closes_on_piece serves size first new g.state how from after next old now ends_old ends_new (g.same.size ∙ s.size_is) g.runs x.1 (g.same.ended ∙ s.waits.on) on (known after)
       (subst (λ (l : List ℕ). IsTaken from after l (known after)) (sym g.same.input) took)
-  ended_by ends.WriteFault f = fails_in serves size first fed_at from after (known after) next old now s.size_is took f
+  ended_by ends.WriteFault f = fails_in serves size first fed_at from after (known after) next old now ends_old ends_new s.size_is took (subst (λ (b : Bool). HasEnded b (known after) ends_old ends_new) (sym s.waits.on) on) f
   ended_by ends.Spent f = absurd f
   ended_by ends.ReadFault f = absurd f
   ended_by ends.NoMemory f = absurd f
 
-  pub heard_end : (how : end.ConnEnd) → Hears piece (Some how) serves conn new desk next mid now → Serves how serves size (around first from old) (around next after now)
+  pub heard_end : (how : end.ConnEnd) → Hears piece (Some how) serves conn new desk next mid now → Serves how serves size (around first from ends_old old) (around next after ends_new now)
   heard_end how h = ended_by how (subst (λ (p : State R P T). Heard (Some how) serves first p new next old now) at_is (h first old s.state s.runs))
 
 -- the input ends
 module _ {R P T Desk : Type 0} (serves : Step R P T Desk) (size : ℕ) (first : Desk) (from left after : Option (List ℕ)) (taken : ℕ) (conn d : ConnView R P T) (desk next : Desk)
-    (old mid now : Option (List ℕ)) (s : Serving serves size first from left taken conn desk old mid) where
+    (old mid now : Option (List ℕ)) (s : Serving serves size first from left taken conn desk old mid) (ends_old ends_new : ℕ) (counted : ends_new ≡ one_more ends_old) where
   abbrev end_at : State R P T
   end_at = record { size = s.state.size; input = s.state.input; ended = true; replies = s.state.replies; past = s.state.past }
 
   end_is : shut conn s.state ≡ end_at
   end_is = shut_is conn s.state s.hears
 
-  over_by : (how : end.ConnEnd) → IsTaken from after s.state.input [] → Heard (Some how) serves first end_at d next old now → Serves how serves size (around first from old) (around next after now)
+  over_by : (how : end.ConnEnd) → IsTaken from after s.state.input [] → Heard (Some how) serves first end_at d next old now → Serves how serves size (around first from ends_old old) (around next after ends_new now)
   over_by (ends.Closed how) got x =
       let g = x.0 in
-      closes_at_end serves size first d g.state how from after next old now (g.same.size ∙ s.size_is) g.runs x.1 g.same.ended
+      closes_at_end serves size first d g.state how from after next old now ends_old ends_new (g.same.size ∙ s.size_is) g.runs x.1 g.same.ended counted
       (subst (λ (l : List ℕ). IsTaken from after l []) (sym g.same.input) got)
-  over_by ends.WriteFault got f = fails_in serves size first end_at from after [] next old now s.size_is got f
+  over_by ends.WriteFault got f = fails_in serves size first end_at from after [] next old now ends_old ends_new s.size_is got (refl, counted) f
   over_by ends.Spent got f = absurd f
   over_by ends.ReadFault got f = absurd f
   over_by ends.NoMemory got f = absurd f
 
   pub input_ends : (how : end.ConnEnd) → after ≡ left → IfSome left (λ bytes. bytes ≡ []) → EndsHere how serves conn d desk next mid now
-      → Serves how serves size (around first from old) (around next after now)
+      → Serves how serves size (around first from ends_old old) (around next after ends_new now)
   input_ends how same over e =
       over_by how (all_taken from left after s.state.input (known left) same over s.told)
       (subst (λ (p : State R P T). Heard (Some how) serves first p d next old now) end_is (e first old s.state s.runs))

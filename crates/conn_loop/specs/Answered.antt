@@ -7,7 +7,7 @@ use Rattle.conn_core.specs.declared.answer.EndedAnswer as endings
 use Rattle.conn_core.specs.declared.answer.EndedAnswer.TheVariants as ends
 use Rattle.conn_core.specs.declared.answer.LookAnswer as lookings
 use Rattle.conn_core.specs.declared.answer.LookAnswer.TheVariants as looks
-use Rattle.conn_core.specs.Trace.{Need, Needs, Bytes, Look, Enter, Begin, Resume, Finish, Write, Close, Replies, Found, UnknownApp, Interrupted, Goes, Ended}
+use Rattle.conn_core.specs.Trace.{Need, Needs, Bytes, Look, Enter, Begin, Resume, Finish, Retire, Write, Close, Replies, Found, UnknownApp, Interrupted, Goes, Ended}
 
 -- what it stands on, a need, the replies to it, and what it stands on then
 abbrev pub Step : Type 0 → Type 0 → Type 0 → Type 0 → Type 1
@@ -47,9 +47,11 @@ module _ {R P T : Type 0} where
   writes needs = flat_map bytes_of needs
 
   -- What the host was asked for without a reply: the needs that were done without one. A Look that found no memory
-  -- is not done, and comes before them.
+  -- is not done, and comes before them. A Retire that found none is done, and it is as if the host was not asked.
   abbrev pub IsAsked : Needs R P T → Needs R P T → Type 0
-  IsAsked unreplied asked = (asked ≡ unreplied) ⊎ ((app : List ℕ) × (asked ≡ Look app ∷ unreplied))
+  IsAsked unreplied asked =
+      (asked ≡ unreplied) ⊎ ((app : List ℕ) × (asked ≡ Look app ∷ unreplied))
+      ⊎ ((half : P) × (unreplied ≡ Retire half ∷ asked))
 
 module _ {R P T Desk : Type 0} where
   -- bytes, writes and the close are no matter of the host

@@ -1,5 +1,6 @@
 -- What was done for a connection when it is over: the needs of its trace, to which a host gave the replies.
 use Rattle.std.specs.Prelude.{◌≡◌, ◌⊎◌, ℕ, Bool, true, false, List, [], ◌∷◌, ◌++◌, length, Option, Some}
+use Rattle.waf_io.specs.Counts.{one_more}
 use Rattle.waf_io.specs.Sink.{Adds}
 use Rattle.spop_frame.specs.declared.status.TheConstants.{NO_MEMORY}
 use Rattle.conn_core.specs.declared.need.Closing as closing
@@ -11,18 +12,25 @@ use Rattle.conn_loop.specs.declared.connection.ConnEnd.TheVariants as ends
 use Rattle.conn_loop.specs.declared.connection.TheConstants.{MOST_BYTES}
 use Rattle.conn_loop.specs.Answered.{Step, Answered, Starved, in_full, writes}
 
--- what a host stands on, the bytes that a source has left, and those that a sink holds, where these are told
+-- what a host stands on, the bytes that a source has left, where it tells them, how often it said that none are left,
+-- and the bytes that a sink holds, where it tells them
 pub record Around (Desk : Type 0) : Type 0 where
   pub desk : Desk
   pub left : Option (List ℕ)
+  pub ends : ℕ
   pub held : Option (List ℕ)
 
-abbrev pub around : {Desk : Type 0} → Desk → Option (List ℕ) → Option (List ℕ) → Around Desk
-around desk left held = record { desk = desk; left = left; held = held }
+abbrev pub around : {Desk : Type 0} → Desk → Option (List ℕ) → ℕ → Option (List ℕ) → Around Desk
+around desk left count held = record { desk = desk; left = left; ends = count; held = held }
 
 -- Of what the source had left these bytes were taken, and those are left. Nothing is said where it tells nothing.
 abbrev pub IsTaken : Option (List ℕ) → Option (List ℕ) → List ℕ → List ℕ → Type 0
 IsTaken first left taken rest = (input : List ℕ) → first ≡ Some input → (left ≡ Some rest) × (input ≡ taken ++ rest)
+
+-- That the input has ended was heard where the source said so once, and then nothing is left. Else it never said so.
+abbrev pub HasEnded : Bool → List ℕ → ℕ → ℕ → Type 0
+HasEnded true rest before now = (rest ≡ []) × (now ≡ one_more before)
+HasEnded false rest before now = now ≡ before
 
 module _ {R P T Desk : Type 0} where
   -- `past` was done with each reply that is due, and for these replies the trace has these needs
@@ -44,12 +52,15 @@ module _ {R P T Desk : Type 0} where
   HasNeeds serves first size input ended past needs next =
       Whole serves first size input ended past needs next ⊎ BreaksOff serves first size input ended past needs next
 
-  -- it closed: the input is what was taken, and what is left
+  -- it closed, as it does for the whole input, which is what was taken and what is left, and for what it heard of it
   pub record Closed (serves : Step R P T Desk) (size : ℕ) (how : closing.Closing) (old new : Around Desk) : Type 0 where
     pub taken : List ℕ
     pub rest : List ℕ
     pub is_taken : IsTaken old.left new.left taken rest
+    pub ended : Bool
+    pub has_ended : HasEnded ended rest old.ends new.ends
     pub past : Needs R P T
+    pub heard : Whole serves old.desk size taken ended past (past ++ Close how ∷ []) new.desk
     pub whole : Whole serves old.desk size (taken ++ rest) true past (past ++ Close how ∷ []) new.desk
     pub added : Adds old.held (writes past) new.held
 
@@ -58,6 +69,7 @@ module _ {R P T Desk : Type 0} where
     pub taken : List ℕ
     pub rest : List ℕ
     pub is_taken : IsTaken old.left new.left taken rest
+    pub goes_on : HasEnded false rest old.ends new.ends
     pub many : length taken ≡ MOST_BYTES
     pub past : Needs R P T
     pub whole : Whole serves old.desk size taken false past (past ++ Bytes ∷ []) new.desk
@@ -68,6 +80,7 @@ module _ {R P T Desk : Type 0} where
     pub taken : List ℕ
     pub rest : List ℕ
     pub is_taken : IsTaken old.left new.left taken rest
+    pub goes_on : HasEnded false rest old.ends new.ends
     pub past : Needs R P T
     pub whole : Whole serves old.desk size taken false past (past ++ Bytes ∷ []) new.desk
     pub added : Adds old.held (writes past) new.held
@@ -78,6 +91,7 @@ module _ {R P T Desk : Type 0} where
     pub rest : List ℕ
     pub is_taken : IsTaken old.left new.left taken rest
     pub ended : Bool
+    pub has_ended : HasEnded ended rest old.ends new.ends
     pub past : Needs R P T
     pub prefix : List ℕ
     pub unwritten : List ℕ
@@ -91,6 +105,7 @@ module _ {R P T Desk : Type 0} where
     pub rest : List ℕ
     pub is_taken : IsTaken old.left new.left taken rest
     pub ended : Bool
+    pub has_ended : HasEnded ended rest old.ends new.ends
     pub past : Needs R P T
     pub broken : BreaksOff serves old.desk size taken ended past
         (past ++ Close (closings.Ended NO_MEMORY) ∷ []) new.desk

@@ -3,7 +3,7 @@ use Rattle.std.specs.Prelude.{◌≡◌, ◌⊎◌, true, false, Bool, IfSome, [
 use Rattle.conn_core.specs.declared.need.Need as need
 use Rattle.conn_core.specs.declared.need.Need.TheVariants as needs
 use Rattle.conn_core.specs.Calls.{kind_at}
-use Rattle.conn_core.specs.Stands.{ConnView, Holds, Stands, State}
+use Rattle.conn_core.specs.Stands.{ConnView, Holds, Stands, State, served}
 use Rattle.conn_core.specs.Trace.{Need, Bytes, Look, Enter, Begin, Park, Leave, Resume, Finish, Retire, Write, Close, Replies}
 use Rattle.conn_loop.specs.Answered.{Step, due}
 
@@ -50,9 +50,21 @@ module _ {R P T Desk : Type 0} where
     pub stays : c.broken ≡ true → (d.broken ≡ true) × (due need ≡ 0)
     pub stands : Stands d (met need mine s)
 
+  -- There was no memory to end a request: the desk is as it was, and the connection out of memory since.
+  pub record Forgone (c d : ConnView R P T) (a b : Desk) (s : State R P T) : Type 0 where
+    pub kind : needs.Retire ≡ kind_at c.stage
+    pub desk : b ≡ a
+    pub whole : c.broken ≡ false
+    pub broken : d.broken ≡ true
+    pub half : P
+    pub stands : Stands d (served (Retire half) s)
+
+  abbrev pub IsMet : Step R P T Desk → ConnView R P T → ConnView R P T → Desk → Desk → State R P T → Type 0
+  IsMet serves c d a b s = Met serves c d a b s ⊎ Forgone c d a b s
+
   -- its need was met, whatever it stood for
   abbrev pub Meets : Step R P T Desk → ConnView R P T → ConnView R P T → Desk → Desk → Type 0
-  Meets serves c d a b = (s : State R P T) → Stands c s → Met serves c d a b s
+  Meets serves c d a b = (s : State R P T) → Stands c s → IsMet serves c d a b s
 
   -- it stands for some state and asks the host for this, and its ticket is held
   pub record Asks (n : need.Need) (holds : Desk → T → Type 0) (desk : Desk) (c : ConnView R P T) : Type 0 where

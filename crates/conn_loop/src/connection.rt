@@ -1,6 +1,6 @@
 ghost use Rattle.std.specs.Prelude.{◌≡◌, ◌≢◌, ◌<◌, ◌≤◌, length, List, None, Option, Some, true, ℕ};
 ghost use Rattle.waf_io.specs.Counts.{Rose};
-ghost use Rattle.waf_io.specs.Source.{Reads};
+ghost use Rattle.waf_io.specs.Source.{CountsEnd, Reads};
 ghost use Rattle.conn_core.specs.Calls.{At};
 ghost use Rattle.conn_core.specs.Stands.{calls_left, Closes, listens, opening, Stands, State};
 ghost use Rattle.conn_loop.specs.Ends.{around, Serves};
@@ -50,8 +50,8 @@ pub fn serve<R: Drop, P: Drop, T, H: Host<R, P, T>, S: Source, K: Sink>(
     output: &mut K,
 ) -> ConnEnd
     ensures served { Serves result H.serves size
-        (around (H.desk host.old) (S.left input.old) (K.held output.old))
-        (around (H.desk host.new) (S.left input.new) (K.held output.new)) }
+        (around (H.desk host.old) (S.left input.old) (S.ends input.old) (K.held output.old))
+        (around (H.desk host.new) (S.left input.new) (S.ends input.new) (K.held output.new)) }
     ensures read_fault { result ≡ ConnEnd.ReadFault → Rose (S.faults input.old) (S.faults input.new) }
     ensures write_fault { result ≡ ConnEnd.WriteFault → Rose (K.faults output.old) (K.faults output.new) }
 {
@@ -84,8 +84,8 @@ fn serve_pieces<R: Drop, P: Drop, T, H: Host<R, P, T>, S: Source, K: Sink>(
     requires stands { Stands conn.old (opening size) }
     requires listens { listens conn.old ≡ true }
     ensures served { Serves result H.serves size
-        (around (H.desk host.old) (S.left input.old) (K.held output.old))
-        (around (H.desk host.new) (S.left input.new) (K.held output.new)) }
+        (around (H.desk host.old) (S.left input.old) (S.ends input.old) (K.held output.old))
+        (around (H.desk host.new) (S.left input.new) (S.ends input.new) (K.held output.new)) }
     ensures free { IsFree conn.new }
     ensures read_fault { result ≡ ConnEnd.ReadFault → Rose (S.faults input.old) (S.faults input.new) }
     ensures write_fault { result ≡ ConnEnd.WriteFault → Rose (K.faults output.old) (K.faults output.new) }
@@ -118,6 +118,7 @@ fn read_piece<S: Source>(input: &mut S, room: usize, buffer: &mut [u8]) -> Got
     ensures length { length buffer.new ≡ length buffer.old }
     ensures later { S.faults input.old ≤ S.faults input.new }
     ensures cause { result ≡ Got.Failed → Rose (S.faults input.old) (S.faults input.new) }
+    ensures end { CountsEnd result (S.ends input.old) (S.ends input.new) }
 {
     input.read(&mut buffer[..room])
 }

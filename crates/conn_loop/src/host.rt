@@ -1,4 +1,4 @@
-ghost use Rattle.std.specs.Prelude.{◌≡◌, ◌∷◌, [], List};
+ghost use Rattle.std.specs.Prelude.{◌≡◌, ◌∷◌, [], false, List, true};
 ghost use Rattle.conn_core.specs.Calls.{claim_of, entry_of};
 ghost use Rattle.conn_core.specs.Trace.{Begin, Enter, Finish, Leave, Look, Need, Park, Reply, Resume, Retire};
 ghost use Rattle.conn_loop.specs.Answered.{begun_replies, ended_replies, look_replies};
@@ -54,7 +54,8 @@ pub trait Host<R, P, T> {
     fn finish(&mut self, half: P, response: Response) -> EndedAnswer
         ensures { serves (desk self.old) (Finish half response) (ended_replies result) (desk self.new) };
 
-    /// Ends a request whose response is not judged; whether there was memory.
+    /// Ends a request whose response is not judged; whether there was memory. Where there was none, nothing is done.
     fn retire(&mut self, half: P) -> bool
-        ensures { serves (desk self.old) (Retire half) [] (desk self.new) };
+        ensures retired { result ≡ true → serves (desk self.old) (Retire half) [] (desk self.new) }
+        ensures kept { result ≡ false → desk self.new ≡ desk self.old };
 }

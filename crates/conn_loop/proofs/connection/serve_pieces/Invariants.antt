@@ -1,4 +1,4 @@
-use Rattle.std.proofs.Common.{◌≤◌, ◌-◌}
+use Rattle.std.proofs.Common.{◌≡◌, ◌≤◌, ◌-◌}
 use Rattle.conn_loop.specs.Steps.{IsFree}
 use Rattle.conn_loop.proofs.Serving.{Serving}
 use Rattle.conn_loop.proofs.connection.serve_pieces.Given as goal
@@ -12,6 +12,7 @@ invariant-loop-taken g l =
           (sink.held l.output);
       free : IsFree l.conn;
       few : l.taken ≤ 4611686018427387904;
+      goes_on : source.ends l.input ≡ source.ends l.fn.input;
       reads : source.faults l.fn.input ≤ source.faults l.input;
       writes : sink.faults l.fn.output ≤ sink.faults l.output;
     }

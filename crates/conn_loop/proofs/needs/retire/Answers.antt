@@ -1,14 +1,14 @@
 use Rattle.std.proofs.Common.{[], refl}
 use Rattle.conn_core.specs.declared.need.Need.TheVariants as needs
 use Rattle.conn_core.specs.Trace.{Retire}
-use Rattle.conn_loop.proofs.Meeting.{alone_stands, free_held, meets_alone, quiet_free, still_free}
+use Rattle.conn_loop.proofs.Meeting.{alone_stands, free_held, meets_retire, quiet_free, still_free}
 use Rattle.conn_loop.proofs.needs.retire.Goals as goal
 
 pub returns-clause-meets : goal.returns-clause-meets
 returns-clause-meets g c = λ s h.
     let t = c.take_retire-half in
-    meets_alone g.H.Host.serves _ _ _ _ s (Retire t.result) c.requires.asks.kind (λ e. absurd (cc (c.requires.at.1, e))) c.retire-memory.ensures refl
-    (alone_stands c.give_retired.new.self s (Retire t.result) refl (c.give_retired.ensures.next _ (t.ensures.done s h)))
+    meets_retire g.H.Host.serves _ _ _ _ s t.result c.retire-memory.result c.requires.asks.kind c.requires.at.1 c.retire-memory.ensures.retired c.retire-memory.ensures.kept
+    c.give_retired.ensures.broken (c.give_retired.ensures.next _ (t.ensures.done s h))
 
 pub returns-clause-held : goal.returns-clause-held
 returns-clause-held g c =
