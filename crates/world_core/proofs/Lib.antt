@@ -9,3 +9,4 @@ pub mod Turning
 pub mod Hearing
 pub mod Calling
 pub mod Counting
+pub mod Growing

@@ -15,7 +15,7 @@ use Rattle.conn_core.proofs.Inner.{trace_now}
 use Rattle.conn_core.proofs.Served.{plain_when}
 use Rattle.conn_core.proofs.Standing.{IsNext, next_write}
 use Rattle.conn_loop.specs.Answered.{due}
-use Rattle.conn_loop.specs.Met.{Met, asks_host, met}
+use Rattle.conn_loop.specs.Met.{IsMet, Met, asks_host, met}
 use Rattle.world_core.specs.World.{Conn, Halls, Need, World, need_of}
 use Rattle.world_core.specs.Acts.{Acts, Reply}
 use Rattle.world_core.specs.Standing.{Talk}
@@ -71,9 +71,9 @@ in_full b need mine whole (inr e) = absurd (let k : false ≡ true = sym whole �
 abbrev quiet : SharedDesk → SharedDesk
 quiet desk = record { shelf = desk.shelf; halls = desk.halls; moment = desk.moment; seen = shown.Nothing; starved = desk.starved }
 
-pub acts_as : (old new last : SharedDesk) (c d : Talk) (s : Conn) (seen : Seen) → Holds c.stage c.hold → c.broken ≡ false → Stands c s → asks_host (kind_at c.stage) ≡ true → d.broken ≡ false → new.starved ≡ false
+acts_met : (old new last : SharedDesk) (c d : Talk) (s : Conn) (seen : Seen) → Holds c.stage c.hold → c.broken ≡ false → Stands c s → asks_host (kind_at c.stage) ≡ true → d.broken ≡ false → new.starved ≡ false
     → last.shelf ≡ new.shelf → last.halls ≡ new.halls → last.moment ≡ new.moment → seen ≡ new.seen → Met (Serves arc_value) c d (quiet old) new s → ActsAs old last d s seen
-acts_as old new last c d s seen h whole stands asks left fed shelf halls moment shows m =
+acts_met old new last c d s seen h whole stands asks left fed shelf halls moment shows m =
     let full = in_full d.broken m.need m.mine left m.replied in
     let now : Stands d (after m.need m.mine s) = subst (λ (z : Conn). Stands d z) (met_after m.need m.mine s full) m.stands in
     let next : Conn = with_replies m.mine (served m.need s) in
@@ -87,6 +87,12 @@ acts_as old new last c d s seen h whole stands asks left fed shelf halls moment 
       whole = left;
       stands = subst (λ (z : Conn). Stands d z) (got m.mine (served m.need s)) now;
     }
+
+-- where there was no memory to end a request it is out of memory
+pub acts_as : (old new last : SharedDesk) (c d : Talk) (s : Conn) (seen : Seen) → Holds c.stage c.hold → c.broken ≡ false → Stands c s → asks_host (kind_at c.stage) ≡ true → d.broken ≡ false → new.starved ≡ false
+    → last.shelf ≡ new.shelf → last.halls ≡ new.halls → last.moment ≡ new.moment → seen ≡ new.seen → IsMet (Serves arc_value) c d (quiet old) new s → ActsAs old last d s seen
+acts_as old new last c d s seen h whole stands asks left fed shelf halls moment shows (inl m) = acts_met old new last c d s seen h whole stands asks left fed shelf halls moment shows m
+acts_as old new last c d s seen h whole stands asks left fed shelf halls moment shows (inr none) = absurd (let k : true ≡ false = sym none.broken ∙ left in cc)
 
 -- what was written was to be written
 next_of : (b : Bool) (s : Conn) (bytes : List ℕ) (later : List Need) → b ≡ false → IsNext b s bytes later → need_of s ≡ Some (needs.Write bytes)

@@ -11,9 +11,8 @@ use Rattle.hall_core.proofs.Totals.{none_counted, total_without}
 use Rattle.conn_core.specs.Stands.{Stands, spent_in, tickets_in}
 use Rattle.conn_core.specs.Trace.{held_by}
 use Rattle.conn_core.proofs.Served.{plain_when}
-use Rattle.world_core.specs.declared.peers.Connection.{Connection}
 use Rattle.world_core.specs.World.{Conn, Halls, Peer, is_peer, with_conn}
-use Rattle.world_core.specs.Standing.{StandAll, StandsAt, Runs, TicketsRun, count_of, given_to, is_numbered, is_ticket, running_at, spent_by}
+use Rattle.world_core.specs.Standing.{Connection, StandAll, StandsAt, Runs, TicketsRun, count_of, given_to, is_numbered, is_ticket, running_at, spent_by}
 use Rattle.world_core.proofs.Tickets.{count_both}
 
 abbrev Hall : Type 0

@@ -21,13 +21,12 @@ use Rattle.hall_core.proofs.Places.{IsAt}
 use Rattle.conn_core.specs.declared.seen.Seen.{Seen}
 use Rattle.conn_core.specs.declared.seen.Seen.TheVariants as shown
 use Rattle.conn_core.specs.Stands.{Holds, Stands, is_open, listens, opening}
-use Rattle.world_core.specs.declared.peers.Connection.{Connection}
 use Rattle.world_core.specs.declared.step.Step.{Step}
 use Rattle.world_core.specs.declared.step.Step.TheVariants.{Open, Feed, End, Act, Tick, Expire, Reload, Stats}
 use Rattle.world_core.specs.World.{Conn, Halls, Has, Peer, World, later, sent, shut, with_conn}
 use Rattle.world_core.specs.Acts.{Called}
 use Rattle.world_core.specs.Steps.{IsOver, Steps, counts_of, opened, told}
-use Rattle.world_core.specs.Standing.{AreNew, Becomes, Opens, running_at, IsWhole, May, Moves, NeedsA, Shared, Runs, SharedView, StandAll, StandsAt, StandsFor, Stepped, Talk, TicketsRun, is_numbered}
+use Rattle.world_core.specs.Standing.{Connection, AreNew, Becomes, Opens, running_at, IsWhole, May, Moves, NeedsA, Shared, Runs, SharedView, StandAll, StandsAt, StandsFor, Stepped, Talk, TicketsRun, is_numbered}
 use Rattle.world_core.specs.Serving.{Acted, ActsAs, SharedDesk}
 use Rattle.world_core.proofs.Standing.{appended, changed_stands, held_runs, numbered_found, peer_found}
 use Rattle.world_core.proofs.Tickets.{tickets_run}

@@ -1,5 +1,6 @@
 pub mod World
 pub mod Acts
+pub mod Begun
 pub mod Steps
 pub mod Promised
 pub mod Standing

@@ -25,7 +25,7 @@ pub record Desk (R : Type 0) : Type 0 where
 abbrev pub SharedDesk : Type 0
 SharedDesk = Desk Shared
 
-abbrev pub desk_of : Tables → SharedDesk
+abbrev pub desk_of : {J H : Type 0} → Tables J H → SharedDesk
 desk_of t = record { shelf = t.shelf; halls = t.shards; moment = t.moment; seen = t.seen; starved = t.starved }
 
 -- the same as a state, without connections

@@ -16,10 +16,14 @@ use Rattle.conn_core.specs.declared.seen.Seen.{Seen}
 use Rattle.conn_core.specs.Stands.{ConnView, Stands, spent_in, tickets_in}
 use Rattle.conn_loop.specs.Met.{kind_of}
 use Rattle.tx_core.specs.HalfView.{HalfView}
-use Rattle.world_core.specs.declared.peers.Connection.{Connection}
+use Rattle.world_core.specs.declared.peers.Connection as numbered
 use Rattle.world_core.specs.declared.step.Step.{Step}
 use Rattle.world_core.specs.World.{Conn, Halls, Has, Need, Peer, Rules, World, need_of}
 use Rattle.world_core.specs.Steps.{Steps, can}
+
+-- a connection with its number, as it is seen
+abbrev pub Connection : Type 0
+Connection = numbered.Connection HalfView
 
 -- the connections as they are seen, with what they share
 pub record WorldView (R : Type 0) : Type 0 where

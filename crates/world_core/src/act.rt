@@ -7,6 +7,7 @@ ghost use Rattle.world_core.specs.Serving.{Acted, desk_of, Keeps, Writes};
 ghost use Rattle.world_core.specs.Standing.{IsWhole};
 ghost use Rattle.world_core.specs.World.{Conn};
 
+use crate::judge::Judge;
 use crate::peers::Talk;
 use crate::tables::Tables;
 use conn_core::{Closing, Need, Seen};
@@ -15,7 +16,7 @@ use std::mem;
 use waf_plain::{Bytes, NoMemory};
 
 /// Meets its next need; at Bytes and at Close it stays as it is.
-pub fn act_on(conn: &mut Talk, tables: &mut Tables) -> Result<Seen, NoMemory>
+pub fn act_on<J: Judge>(conn: &mut Talk<J>, tables: &mut Tables<J>) -> Result<Seen, NoMemory>
     requires whole { IsWhole conn.old }
     requires keeps { Keeps (desk_of tables.old) conn.old }
     ensures { IfOk result (λ seen. Acted (desk_of tables.old) (desk_of tables.new) conn.old conn.new seen) }
@@ -29,7 +30,7 @@ pub fn act_on(conn: &mut Talk, tables: &mut Tables) -> Result<Seen, NoMemory>
 }
 
 // How it closes.
-fn closing(conn: &Talk) -> Closing
+fn closing<J: Judge>(conn: &Talk<J>) -> Closing
     requires { At Need.Close conn.now.broken conn.now.stage }
     ensures { (s : Conn) → Stands conn.now s → Closes conn.now s result }
 {
@@ -40,7 +41,7 @@ fn closing(conn: &Talk) -> Closing
 }
 
 // The bytes that are to be written are those that are shown.
-fn write(alloc: Global, conn: &mut Talk) -> Result<Seen, NoMemory>
+fn write<J: Judge>(alloc: Global, conn: &mut Talk<J>) -> Result<Seen, NoMemory>
     requires whole { IsWhole conn.old }
     requires at { At Need.Write conn.old.broken conn.old.stage }
     ensures { IfOk result (λ seen. Writes conn.old conn.new seen) }
@@ -54,7 +55,7 @@ fn write(alloc: Global, conn: &mut Talk) -> Result<Seen, NoMemory>
 }
 
 // The tables answer.
-fn ask(conn: &mut Talk, tables: &mut Tables) -> Result<Seen, NoMemory>
+fn ask<J: Judge>(conn: &mut Talk<J>, tables: &mut Tables<J>) -> Result<Seen, NoMemory>
     requires whole { IsWhole conn.old }
     requires keeps { Keeps (desk_of tables.old) conn.old }
     requires asks { asks_host (kind_at conn.old.stage) ≡ true }

@@ -1,16 +1,17 @@
 //! The tables, as the host of a connection.
-use crate::judge;
+use crate::begun::JudgeBegun;
+use crate::judge::Judge;
+use crate::judged::{self, Judged};
 use crate::rules::SharedRules;
 use crate::tables::Tables;
 use conn_core::{BegunAnswer, EndedAnswer, EntryAnswer, LookAnswer, Seen, Settings};
 use conn_loop::Host;
 use hall_core::{Claim, Entry, Key, Ticket};
 use shelf::Look;
-use tx_core::{Begun, Half};
 use waf_plain::NoMemory;
 use web_parts::{Request, Response};
 
-impl Host<SharedRules, Half, Ticket> for Tables {
+impl<J: Judge> Host<SharedRules, Judged<J>, Ticket> for Tables<J> {
     ghost use Rattle.std.specs.Arc.{arc_value};
     ghost use Rattle.world_core.specs.Serving.{Serves, SharedDesk, desk_of};
     ghost use Rattle.world_core.specs.Standing.{Runs};
@@ -56,13 +57,13 @@ impl Host<SharedRules, Half, Ticket> for Tables {
         }
     }
 
-    fn begin(&mut self, rules: SharedRules, request: Request) -> BegunAnswer<Half> {
-        match judge::begin(self.alloc, rules, request) {
-            Ok(Begun::Interrupted { verdict, lines }) => {
+    fn begin(&mut self, rules: SharedRules, request: Request) -> BegunAnswer<Judged<J>> {
+        match judged::begin(&self.judge, self.alloc, rules, request) {
+            Ok(JudgeBegun::Interrupted { verdict, lines }) => {
                 self.seen = Seen::Lines(lines);
                 BegunAnswer::Interrupted(verdict)
             }
-            Ok(Begun::Goes { half, lines }) => {
+            Ok(JudgeBegun::Goes { half, lines }) => {
                 self.seen = Seen::Lines(lines);
                 BegunAnswer::Goes(half)
             }
@@ -73,7 +74,7 @@ impl Host<SharedRules, Half, Ticket> for Tables {
         }
     }
 
-    fn park(&mut self, ticket: Ticket, life: u64, half: Half) {
+    fn park(&mut self, ticket: Ticket, life: u64, half: Judged<J>) {
         let deadline = self.moment.saturating_add(life);
         self.shards.park(ticket, deadline, half);
     }
@@ -82,15 +83,15 @@ impl Host<SharedRules, Half, Ticket> for Tables {
         self.shards.leave(ticket);
     }
 
-    fn resume(&mut self, key: Key) -> Option<Half> {
+    fn resume(&mut self, key: Key) -> Option<Judged<J>> {
         match self.shards.resume(&key) {
             Claim::Resumed { value, .. } => Some(value),
             Claim::NotParked => None,
         }
     }
 
-    fn finish(&mut self, half: Half, response: Response) -> EndedAnswer {
-        match judge::finish(self.alloc, half, response) {
+    fn finish(&mut self, half: Judged<J>, response: Response) -> EndedAnswer {
+        match judged::finish(&self.judge, self.alloc, half, response) {
             Ok(ended) => {
                 self.seen = Seen::Lines(ended.lines);
                 EndedAnswer::Verdict(ended.verdict)
@@ -102,16 +103,13 @@ impl Host<SharedRules, Half, Ticket> for Tables {
         }
     }
 
-    fn retire(&mut self, half: Half) -> bool {
-        match judge::retire(self.alloc, half) {
+    fn retire(&mut self, half: Judged<J>) -> bool {
+        match judged::retire(&self.judge, self.alloc, half) {
             Ok(lines) => {
                 self.seen = Seen::Lines(lines);
                 true
             }
-            Err(NoMemory) => {
-                self.starved = true;
-                false
-            }
+            Err(NoMemory) => false,
         }
     }
 }

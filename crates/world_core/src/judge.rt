@@ -1,75 +1,46 @@
-//! What judges requests and responses; its steps are counted for contracts alone.
-ghost use Rattle.std.specs.Prelude.{◌≡◌, ◌<◌, IfOk};
+//! What judges requests and responses.
+ghost use Rattle.std.specs.Prelude.{IfOk};
 ghost use Rattle.std.specs.Arc.{arc_value};
+ghost use Rattle.tx_core.specs.HalfView.{HalfView};
 ghost use Rattle.tx_core.specs.Halves.{BeginsAs, EndsAs, RetiresAs};
+ghost use Rattle.world_core.specs.Begun.{begun_by};
 
-use crate::rules::SharedRules;
+use crate::begun::JudgeBegun;
+use crate::rules::Handle;
 use sec_ast::LogLine;
 use std::alloc::Global;
-use std::marker::Brand;
-use std::sync::ledger::{Blank, Ledger};
-use tx_core::{Begun, Ended, Half};
-use waf_plain::{NoMemory, Seq, Steps};
+use tx_core::Ended;
+use waf_plain::{NoMemory, Seq};
 use web_parts::{Request, Response};
 
-/// Judges a request.
-pub fn begin(alloc: Global, rules: SharedRules, request: Request) -> Result<Begun, NoMemory>
-    ensures { IfOk result (λ begun. BeginsAs rules.1 rules.0 request begun) }
-{
-    begin_in::<Brand>(alloc, rules, request, Blank::new(1))
-}
+/// What judges a transaction in two halves: that of the request, and that of its response or of none.
+pub trait Judge: Drop {
+    /// A transaction whose request was judged and not interrupted.
+    type Half: Drop;
 
-fn begin_in<L: Ledger>(
-    alloc: Global,
-    rules: SharedRules,
-    request: Request,
-    blank: Blank,
-) -> Result<Begun, NoMemory>
-    requires name { blank.name ≡ L.name }
-    requires parts { blank.parts ≡ L.parts }
-    requires some { 0 < L.parts }
-    ensures { IfOk result (λ begun. BeginsAs rules.1 rules.0 request begun) }
-{
-    let SharedRules { generation, handle } = rules;
-    let mut steps = Steps::<L>::start(blank);
-    tx_core::begin(alloc, handle, generation, request, &mut steps)
-}
+    /// Its generation, its rules and its request.
+    ghost half: { Self.Half → HalfView };
 
-/// Judges a response.
-pub fn finish(alloc: Global, half: Half, response: Response) -> Result<Ended, NoMemory>
-    ensures { IfOk result (λ ended. EndsAs half response ended) }
-{
-    finish_in::<Brand>(alloc, half, response, Blank::new(1))
-}
+    /// Judges a request by the rules of a generation.
+    fn begin(
+        &self,
+        alloc: Global,
+        rules: Handle,
+        generation: u64,
+        request: Request,
+    ) -> Result<JudgeBegun<Self::Half>, NoMemory>
+        ensures { IfOk result (λ begun. BeginsAs (arc_value rules) generation request (begun_by half begun)) };
 
-fn finish_in<L: Ledger>(
-    alloc: Global,
-    half: Half,
-    response: Response,
-    blank: Blank,
-) -> Result<Ended, NoMemory>
-    requires name { blank.name ≡ L.name }
-    requires parts { blank.parts ≡ L.parts }
-    requires some { 0 < L.parts }
-    ensures { IfOk result (λ ended. EndsAs half response ended) }
-{
-    let mut steps = Steps::<L>::start(blank);
-    tx_core::finish(alloc, half, response, &mut steps)
-}
+    /// Judges the response of a half.
+    fn finish(
+        &self,
+        alloc: Global,
+        judged: Self::Half,
+        response: Response,
+    ) -> Result<Ended, NoMemory>
+        ensures { IfOk result (λ ended. EndsAs (half judged) response ended) };
 
-/// Ends a request for which no response comes.
-pub fn retire(alloc: Global, half: Half) -> Result<Seq<LogLine>, NoMemory>
-    ensures { IfOk result (λ lines. RetiresAs half lines) }
-{
-    retire_in::<Brand>(alloc, half, Blank::new(1))
-}
-
-fn retire_in<L: Ledger>(alloc: Global, half: Half, blank: Blank) -> Result<Seq<LogLine>, NoMemory>
-    requires name { blank.name ≡ L.name }
-    requires parts { blank.parts ≡ L.parts }
-    requires some { 0 < L.parts }
-    ensures { IfOk result (λ lines. RetiresAs half lines) }
-{
-    let mut steps = Steps::<L>::start(blank);
-    tx_core::retire(alloc, half, &mut steps)
+    /// Ends a half for which no response comes.
+    fn retire(&self, alloc: Global, judged: Self::Half) -> Result<Seq<LogLine>, NoMemory>
+        ensures { IfOk result (λ lines. RetiresAs (half judged) lines) };
 }

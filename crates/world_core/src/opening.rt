@@ -2,6 +2,7 @@
 ghost use Rattle.std.specs.Prelude.{◌<◌, IfOk};
 ghost use Rattle.world_core.specs.Standing.{IsOpen, NeedsA, Opens};
 
+use crate::judge::Judge;
 use crate::peers::place_of;
 use crate::rules::Handle;
 use crate::shards::Shards;
@@ -12,16 +13,17 @@ use shelf::{Apps, Shelf};
 use std::alloc::Global;
 use waf_plain::NoMemory;
 
-impl World {
+impl<J: Judge> World<J> {
     /// Without connections, at moment 0, with these applications in force as generation 1, and so many
     /// shards of so many rows each. Connections offer frames of that size.
     pub fn new(
         alloc: Global,
+        judge: J,
         size: u32,
         shards: u32,
         capacity: u32,
         apps: Apps<Handle>,
-    ) -> Result<World, NoMemory>
+    ) -> Result<World<J>, NoMemory>
         requires { 0 < shards }
         ensures { IfOk result (λ world. Opens size shards capacity apps world) }
     {
@@ -29,6 +31,7 @@ impl World {
         Ok(World {
             size,
             tables: Tables {
+                judge,
                 alloc,
                 shelf: Shelf::new(apps),
                 shards,

@@ -9,19 +9,20 @@ ghost use Rattle.world_core.specs.Acts.{Called};
 ghost use Rattle.world_core.specs.Standing.{AreNew, Runs};
 ghost use Rattle.world_core.specs.Steps.{counts_of};
 
+use crate::judge::Judge;
+use crate::judged::Judged;
 use hall_core::{Claim, Counts, Entry, Expiry, Hall, Key, Ticket, shard_of};
 use std::alloc::Global;
 use std::marker::Model;
-use tx_core::Half;
 use waf_plain::NoMemory;
 
 /// One shard at least, each with the number of its place.
 #[derive(Drop)]
-pub struct Shards {
-    halls: Vec<Hall<Half>>,
+pub struct Shards<J: Judge> {
+    halls: Vec<Hall<Judged<J>>>,
 }
 
-impl Model for Shards {
+impl<J: Judge> Model for Shards<J> {
     ghost use Rattle.std.specs.Prelude.{◌<◌, ◌^◌, length};
     ghost use Rattle.world_core.specs.World.{Halls};
     ghost use Rattle.world_core.specs.Standing.{AreNumbered};
@@ -33,9 +34,9 @@ impl Model for Shards {
     ghost invariant = { λ s. (0 < length s.halls.items) × (length s.halls.items < 2 ^ 32) × AreNumbered s.halls.items };
 }
 
-impl Shards {
+impl<J: Judge> Shards<J> {
     /// So many shards without rows, for so many rows each.
-    pub fn new(alloc: Global, count: u32, capacity: u32) -> Result<Shards, NoMemory>
+    pub fn new(alloc: Global, count: u32, capacity: u32) -> Result<Shards<J>, NoMemory>
         requires { 0 < count }
         ensures { IfOk result (λ shards. AreNew count capacity shards) }
     {
@@ -54,7 +55,7 @@ impl Shards {
     }
 
     /// Parks the row of a ticket.
-    pub fn park(&mut self, ticket: Ticket, deadline: u64, half: Half)
+    pub fn park(&mut self, ticket: Ticket, deadline: u64, half: Judged<J>)
         requires { Runs self.old ticket }
         ensures { Called self.old ticket.shard (Call.Park ticket deadline half) Reply.OfPark self.new }
     {
@@ -70,7 +71,7 @@ impl Shards {
     }
 
     /// Claims what is parked under this key.
-    pub fn resume(&mut self, key: &Key) -> Claim<Half>
+    pub fn resume(&mut self, key: &Key) -> Claim<Judged<J>>
         ensures { Called self.old (shard_of (length self.old) key.now) (Call.Resume key.now) (Reply.OfResume result)
             self.new }
     {
@@ -79,7 +80,7 @@ impl Shards {
     }
 
     /// Claims what is due first in a shard.
-    pub fn expire(&mut self, shard: u32, now: u64) -> Expiry<Half>
+    pub fn expire(&mut self, shard: u32, now: u64) -> Expiry<Judged<J>>
         requires { shard < length self.old }
         ensures { Called self.old shard (Call.Expire now) (Reply.OfExpire result) self.new }
     {
@@ -94,7 +95,11 @@ impl Shards {
     }
 }
 
-fn new_halls(alloc: Global, count: u32, capacity: u32) -> Result<Vec<Hall<Half>>, NoMemory>
+fn new_halls<J: Judge>(
+    alloc: Global,
+    count: u32,
+    capacity: u32,
+) -> Result<Vec<Hall<Judged<J>>>, NoMemory>
     ensures { IfOk result (λ halls. AreNew count capacity halls.items) }
 {
     let mut halls = Vec::new(alloc);
@@ -104,7 +109,7 @@ fn new_halls(alloc: Global, count: u32, capacity: u32) -> Result<Vec<Hall<Half>>
     Ok(halls)
 }
 
-fn sum_of(halls: &[Hall<Half>]) -> Counts
+fn sum_of<J: Judge>(halls: &[Hall<Judged<J>>]) -> Counts
     ensures { result ≡ counts_of halls.now }
 {
     let mut sum = Counts {

@@ -5,7 +5,8 @@ ghost use Rattle.world_core.specs.Standing.{May, Stepped};
 ghost use Rattle.world_core.specs.declared.step.Step.{Step};
 
 use crate::act::act_on;
-use crate::judge;
+use crate::judge::Judge;
+use crate::judged;
 use crate::peers::{Connection, hear, hear_end, place_of};
 use crate::rules::Handle;
 use crate::step::Step;
@@ -15,7 +16,7 @@ use hall_core::Expiry;
 use shelf::{Apps, Published};
 use waf_plain::{Bytes, NoMemory};
 
-impl World {
+impl<J: Judge> World<J> {
     /// Does a step, and answers what it shows. After an `Err` it can only be dropped.
     pub fn step(&mut self, step: Step<Handle>) -> Result<Seen, NoMemory>
         requires { May self.old step }
@@ -86,7 +87,7 @@ impl World {
             Expiry::NothingDue => Ok(Seen::NothingDue),
             Expiry::Expired { ticket, value, .. } => Ok(Seen::Expired {
                 ticket,
-                lines: judge::retire(self.tables.alloc, value)?,
+                lines: judged::retire(&self.tables.judge, self.tables.alloc, value)?,
             }),
         }
     }

@@ -5,12 +5,12 @@ use Rattle.world_core.proofs.Hearing.{deaf_end, hears_end}
 use Rattle.world_core.proofs.peers.hear_end.Goals as goal
 
 pub returns-then-eq : goal.returns-then-eq
-returns-then-eq c =
+returns-then-eq g c =
     let closed : c.need.result ≡ kinds.Close = search rules in
     (refl, deaf_end c.args.conn.now c.need.ensures.holds c.requires.0 (sym c.need.ensures.kind ∙ closed))
 
 pub returns : goal.returns
-returns c =
+returns g c =
     let differs : c.need.result ≡ kinds.Close → ⊥ = search rules in
     let hears_on : kind_at c.args.conn.now.stage ≡ kinds.Close → ⊥ = λ e. differs (c.need.ensures.kind ∙ e) in
     let left : c.end.new.self.broken ≡ false = sym c.broken.ensures ∙ c.if-broken.false in

@@ -4,4 +4,4 @@ use Rattle.world_core.proofs.Turning.{counts}
 use Rattle.world_core.proofs.world.World.stats.Goals as goal
 
 pub returns : goal.returns
-returns c = counts _ c.args.self.now _ c.self.view_is (ap Counts c.counts.ensures)
+returns g c = counts _ c.args.self.now _ c.self.view_is (ap Counts c.counts.ensures)

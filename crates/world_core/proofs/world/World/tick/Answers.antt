@@ -3,4 +3,4 @@ use Rattle.world_core.proofs.Turning.{ticks}
 use Rattle.world_core.proofs.world.World.tick.Goals as goal
 
 pub returns : goal.returns
-returns c = ticks _ _ _ c.args.units c.self.view_is c.saturating_add-self-inside.ensures refl refl refl refl
+returns g c = ticks _ _ _ c.args.units c.self.view_is c.saturating_add-self-inside.ensures refl refl refl refl

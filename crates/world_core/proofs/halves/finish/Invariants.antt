@@ -1,4 +1,4 @@
-use Rattle.world_core.proofs.judge.finish.Given as goal
+use Rattle.world_core.proofs.halves.finish.Given as goal
 
 abbrev pub ghosts-finish_in : goal.ghosts-finish_in
 ghosts-finish_in a = record { name = a.blank.name; parts = a.blank.parts }
