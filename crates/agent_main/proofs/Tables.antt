@@ -48,26 +48,23 @@ entered_runs s t key e ticket is reply state =
 new_table : (s : Table) → IsNew SHARD CAPACITY s → s ≡ record { shard = SHARD; capacity = CAPACITY; given = 0; rows = [] }
 new_table s n = λ i. record { shard = n.shard_is i; capacity = n.capacity_is i; given = n.given i; rows = n.rows i }
 
-pub exits : (status : ℕ) (how : end.ConnEnd) (rules listing : Listing) (table : Table) (last : Desk) (from left old new : Option (List ℕ))
+pub exits : (status : ℕ) (how : end.ConnEnd) (rules listing : Listing) (table : Table) (last : Desk) (from left : Option (List ℕ)) (before now : ℕ) (old new : Option (List ℕ))
     → status ≡ status_of how → listing ≡ rules → IsNew SHARD CAPACITY table
-    → Serves how serves OWN_SIZE (around (record { rules = listing; table = table }) from old) (around last left new)
-    → IfSome from (λ bytes. Exits status rules bytes left old new)
-exits status how rules listing table last None left old new is same fresh h = tt
-exits status how rules listing table last (Some bytes) left old new is same fresh h = (
+    → Serves how serves OWN_SIZE (around (record { rules = listing; table = table }) from before old) (around last left now new)
+    → Exits status rules from left before now old new
+exits status how rules listing table last from left before now old new is same fresh h = (
   how,
   last,
   is,
-  subst (λ (d : Desk). Serves how serves OWN_SIZE (around d (Some bytes) old) (around last left new)) (λ i. record { rules = same i; table = new_table table fresh i }) h,
+  subst (λ (d : Desk). Serves how serves OWN_SIZE (around d from before old) (around last left now new)) (λ i. record { rules = same i; table = new_table table fresh i }) h,
 )
 
 -- nothing was read and written
-pub exits_at_once : (rules : Listing) (from old : Option (List ℕ)) → IfSome from (λ bytes. Exits 6 rules bytes from old old)
-exits_at_once rules None old = tt
-exits_at_once rules (Some bytes) old = (ends.NoMemory, opening rules, refl, refl)
+pub exits_at_once : (rules : Listing) (from : Option (List ℕ)) (count : ℕ) (old : Option (List ℕ)) → Exits 6 rules from from count count old old
+exits_at_once rules from count old = (ends.NoMemory, opening rules, refl, refl)
 
 -- nor where there was no memory for the rules
-pub exits_before : {A : Type 0} (content : Option A) (tells : A → Listing → Type 0) (other : Type 0) (from old : Option (List ℕ))
-    → IfSome content (λ told. IfSome from (λ bytes. (rules : Listing) → tells told rules → Exits 6 rules bytes from old old ⊎ other))
-exits_before None tells other from old = tt
-exits_before (Some told) tells other None old = tt
-exits_before (Some told) tells other (Some bytes) old = λ rules is. inl (ends.NoMemory, opening rules, refl, refl)
+pub exits_before : {A : Type 0} (content : Option A) (tells : A → Listing → Type 0) (other : Type 0) (from : Option (List ℕ)) (count : ℕ) (old : Option (List ℕ))
+    → IfSome content (λ told. (rules : Listing) → tells told rules → Exits 6 rules from from count count old old ⊎ other)
+exits_before None tells other from count old = tt
+exits_before (Some told) tells other from count old = λ rules is. inl (exits_at_once rules from count old)

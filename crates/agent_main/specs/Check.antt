@@ -1,5 +1,5 @@
 -- What `check` prints.
-use Rattle.std.specs.Prelude.{ℕ, List, ◌++◌, codes, Result, Ok, Err}
+use Rattle.std.specs.Prelude.{ℕ, List, ◌++◌, codes, Result, Ok}
 use Rattle.std.specs.List.{flat_map}
 use Rattle.sec_ast.specs.declared.listing.Listing.{Listing}
 use Rattle.sec_ast.specs.Print.{listing_text}

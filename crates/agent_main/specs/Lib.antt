@@ -3,6 +3,8 @@ pub mod FaultLines
 pub mod CommandFaults
 pub mod Judge
 pub mod Listings
+pub mod Playing
+pub mod Replay
 pub mod Report
 pub mod Run
 pub mod Words

@@ -17,18 +17,18 @@ Reports result status bytes old new =
 abbrev pub OutOfMemory : ℕ → Option (List ℕ) → Option (List ℕ) → Type 0
 OutOfMemory result old new = (result ≡ OUT_OF_MEMORY) × (new ≡ old)
 
--- a file could not be read before anything was written: the count of faults of the files rose from `before` to `now`
-abbrev pub FilesFail : ℕ → ℕ → ℕ → Option (List ℕ) → Option (List ℕ) → Type 0
-FilesFail result before now old new = (result ≡ READ_FAULT) × Rose before now × (new ≡ old)
+-- a read failed before anything was written: the count of faults of what is read rose from `before` to `now`
+abbrev pub ReadFails : ℕ → ℕ → ℕ → Option (List ℕ) → Option (List ℕ) → Type 0
+ReadFails result before now old new = (result ≡ READ_FAULT) × Rose before now × (new ≡ old)
 
--- the same before anything of the input was taken, of which the source had `first` left and has `left`
+-- of a file, before anything of the input was taken, of which the source had `first` left and has `left`
 abbrev pub FilesFailFirst : ℕ → ℕ → ℕ → Option (List ℕ) → Option (List ℕ) → Option (List ℕ) → Option (List ℕ) → Type 0
-FilesFailFirst result before now first left old new = FilesFail result before now old new × (left ≡ first)
+FilesFailFirst result before now first left old new = ReadFails result before now old new × (left ≡ first)
 
 -- the bytes were reported under that status, or nothing was written
 abbrev pub Prints : ℕ → ℕ → List ℕ → ℕ → ℕ → Option (List ℕ) → Option (List ℕ) → Type 0
 Prints result status bytes before now old new =
-    Reports result status bytes old new ⊎ (FilesFail result before now old new ⊎ OutOfMemory result old new)
+    Reports result status bytes old new ⊎ (ReadFails result before now old new ⊎ OutOfMemory result old new)
 
 -- a text, or the line of a fault
 abbrev pub Answers : ℕ → Result (List ℕ) (List ℕ) → ℕ → ℕ → Option (List ℕ) → Option (List ℕ) → Type 0

@@ -2,7 +2,7 @@
 //!
 //! `offline_main(alloc, words, &mut files, &mut input, &mut output)` does what the words ask for, and answers the
 //! exit status. What `once` writes for a connection stands in `specs/Run.antt` and `specs/Judge.antt`, what
-//! `check` prints in `specs/Check.antt`.
+//! `check` prints in `specs/Check.antt`, what `replay` prints in `specs/Replay.antt`.
 #![tactic(auto)]
 
 mod check;
@@ -13,7 +13,10 @@ mod judge;
 mod listings;
 mod offline;
 mod once;
+mod playing;
+mod replay;
 mod report;
+mod script;
 mod verdicts;
 mod words;
 

@@ -1,16 +1,20 @@
 ghost use Rattle.std.specs.Prelude.{◌≡◌, ◌⊎◌, Err, IfSome, List, Ok, false, true, ℕ};
 ghost use Rattle.waf_io.specs.Counts.{Rose};
+ghost use Rattle.agent_conf.specs.declared.load_fault.LoadFault.{LoadFault};
+ghost use Rattle.agent_conf.specs.Loading.{loaded};
 ghost use Rattle.agent_main.specs.Check.{checked};
 ghost use Rattle.agent_main.specs.Listings.{listing_under};
-ghost use Rattle.agent_main.specs.Report.{Answers, FilesFailFirst, Prints, Reports};
+ghost use Rattle.agent_main.specs.Replay.{Replayed, replay_in};
+ghost use Rattle.agent_main.specs.Report.{Answers, FilesFailFirst, Prints, ReadFails, Reports};
 ghost use Rattle.sec_ast.specs.declared.listing.Listing.{Listing};
 ghost use Rattle.agent_main.specs.Run.{Exits};
 ghost use Rattle.agent_main.specs.declared.exit_status.TheConstants.{OTHER_WORDS, READ_FAULT, REFUSED, UNFINISHED, WRITE_FAULT};
-ghost use Rattle.agent_main.specs.Words.{command_of, takes_input, usage_line};
+ghost use Rattle.agent_main.specs.Words.{command_of, refuses_input, serves_connection, takes_input, usage_line};
 
 use crate::check::check;
 use crate::exit_status::OTHER_WORDS;
 use crate::once::once;
+use crate::replay::replay;
 use crate::report::report;
 use crate::words::{Command, command_of};
 use std::alloc::Global;
@@ -19,14 +23,15 @@ use waf_plain::{Bytes, Seq};
 
 /// Does what the words ask for, and answers the exit status. `check CONF` prints, for each application
 /// of a configuration, its name and its listing in canonical text; `once RULES` serves the one
-/// connection from input to output.
+/// connection from input to output; `replay CONF` runs the script of the input over several
+/// connections, and prints what each step shows.
 ///
 /// | Status | Comes where |
 /// |---|---|
 /// | 0 | the work was done; for `once`, HAProxy left, the input ended between two frames, or a health check was answered |
 /// | 1 | `once` alone: the input ended within a frame, the agent left with status 3 to 10, or 2^62 bytes were taken |
 /// | 2 | the words are others; the usage line was written |
-/// | 3 | the configuration or a rule file is refused, or is absent or too long; the line of the fault was written |
+/// | 3 | the configuration, a rule file or the script is refused, or is absent or too long; the line of the fault was written |
 /// | 4 | reading a file or the input failed |
 /// | 5 | writing failed |
 /// | 6 | there was no memory |
@@ -54,19 +59,33 @@ pub fn offline_main<F: Files, S: Source, K: Sink>(
         (F.faults files.old) (F.faults files.new) (K.held output.old) (K.held output.new)
         × (S.left input.new ≡ S.left input.old)) }
 
-    // once, where files and input are told and the rules are not refused: the connection under them
-    ensures served { IfSome (F.content files.old) (λ told. IfSome (S.left input.old) (λ bytes.
-        (name : List ℕ) (rules : Listing) → command_of words ≡ Command.Once name → listing_under told name ≡ Ok rules
-        → Exits result rules bytes (S.left input.new) (K.held output.old) (K.held output.new)
+    // once, where the files are told and the rules are not refused: the connection under them
+    ensures served { IfSome (F.content files.old) (λ told. (name : List ℕ) (rules : Listing) →
+        command_of words ≡ Command.Once name → listing_under told name ≡ Ok rules
+        → Exits result rules (S.left input.old) (S.left input.new) (S.ends input.old) (S.ends input.new)
+        (K.held output.old) (K.held output.new)
         ⊎ FilesFailFirst result (F.faults files.old) (F.faults files.new)
-        (S.left input.old) (S.left input.new) (K.held output.old) (K.held output.new))) }
+        (S.left input.old) (S.left input.new) (K.held output.old) (K.held output.new)) }
+
+    // replay, where files and input are told: what a run over the script shows, or the line of the first fault
+    ensures replayed { IfSome (F.content files.old) (λ told. IfSome (S.left input.old) (λ text.
+        (name : List ℕ) → command_of words ≡ Command.Replay name
+        → Replayed result (replay_in told name text) (K.held output.old) (K.held output.new)
+        ⊎ (ReadFails result (F.faults files.old) (F.faults files.new) (K.held output.old) (K.held output.new)
+        ⊎ ReadFails result (S.faults input.old) (S.faults input.new) (K.held output.old) (K.held output.new)))) }
+
+    // replay, where the files are told and the configuration is refused
+    ensures unloaded { IfSome (F.content files.old) (λ told. (name : List ℕ) (fault : LoadFault) →
+        command_of words ≡ Command.Replay name → loaded told name ≡ Err fault
+        → S.left input.new ≡ S.left input.old) }
 
     // What takes nothing of the input
     ensures untouched { takes_input (command_of words) ≡ false → S.left input.new ≡ S.left input.old }
-    ensures unread { result ≡ REFUSED → S.left input.new ≡ S.left input.old }
+    ensures unread { result ≡ REFUSED → refuses_input (command_of words) ≡ false
+        → S.left input.new ≡ S.left input.old }
 
     // Causes, whatever is told
-    ensures once_alone { result ≡ UNFINISHED → takes_input (command_of words) ≡ true }
+    ensures once_alone { result ≡ UNFINISHED → serves_connection (command_of words) ≡ true }
     ensures read_fault { result ≡ READ_FAULT
         → Rose (F.faults files.old) (F.faults files.new) ⊎ Rose (S.faults input.old) (S.faults input.new) }
     ensures write_fault { result ≡ WRITE_FAULT → Rose (K.faults output.old) (K.faults output.new) }
@@ -74,9 +93,10 @@ pub fn offline_main<F: Files, S: Source, K: Sink>(
     match command_of(words.as_slice()) {
         Command::Check(name) => check(alloc, name, files, output),
         Command::Once(name) => once(alloc, name, files, input, output),
+        Command::Replay(name) => replay(alloc, name, files, input, output),
         Command::Other => report(
             output,
-            b"usage: yefontsila check CONF | once RULES\n",
+            b"usage: yefontsila check CONF | once RULES | replay [--plain] CONF\n",
             OTHER_WORDS,
         ),
     }

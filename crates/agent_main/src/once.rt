@@ -35,11 +35,11 @@ pub fn once<F: Files, S: Source, K: Sink>(
         → Prints result REFUSED line
         (F.faults files.old) (F.faults files.new) (K.held output.old) (K.held output.new)
         × (S.left input.new ≡ S.left input.old)) }
-    ensures served { IfSome (F.content files.old) (λ told. IfSome (S.left input.old) (λ bytes.
-        (rules : Listing) → listing_under told name.now ≡ Ok rules
-        → Exits result rules bytes (S.left input.new) (K.held output.old) (K.held output.new)
+    ensures served { IfSome (F.content files.old) (λ told. (rules : Listing) → listing_under told name.now ≡ Ok rules
+        → Exits result rules (S.left input.old) (S.left input.new) (S.ends input.old) (S.ends input.new)
+        (K.held output.old) (K.held output.new)
         ⊎ FilesFailFirst result (F.faults files.old) (F.faults files.new)
-        (S.left input.old) (S.left input.new) (K.held output.old) (K.held output.new))) }
+        (S.left input.old) (S.left input.new) (K.held output.old) (K.held output.new)) }
     ensures unread { result ≡ REFUSED → S.left input.new ≡ S.left input.old }
     ensures read_fault { result ≡ READ_FAULT
         → Rose (F.faults files.old) (F.faults files.new) ⊎ Rose (S.faults input.old) (S.faults input.new) }
@@ -56,8 +56,8 @@ pub fn once<F: Files, S: Source, K: Sink>(
 // Serves the input by these rules.
 fn under<S: Source, K: Sink>(alloc: Global, rules: Ruleset, input: &mut S, output: &mut K) -> u8
     ensures other { (result ≢ OTHER_WORDS) × (result ≢ REFUSED) }
-    ensures served { IfSome (S.left input.old) (λ bytes.
-        Exits result rules bytes (S.left input.new) (K.held output.old) (K.held output.new)) }
+    ensures served { Exits result rules (S.left input.old) (S.left input.new) (S.ends input.old) (S.ends input.new)
+        (K.held output.old) (K.held output.new) }
     ensures read_fault { result ≡ READ_FAULT → Rose (S.faults input.old) (S.faults input.new) }
     ensures write_fault { result ≡ WRITE_FAULT → Rose (K.faults output.old) (K.faults output.new) }
 {

@@ -9,6 +9,7 @@ use waf_plain::Bytes;
 pub enum Command<N> {
     Check(N),
     Once(N),
+    Replay(N),
     /// No command takes the words.
     Other,
 }
@@ -34,6 +35,8 @@ fn named<'a>(word: &[u8], name: &'a [u8]) -> Command<&'a [u8]>
         Command::Check(name)
     } else if is_same(word, b"once") {
         Command::Once(name)
+    } else if is_same(word, b"replay") {
+        Command::Replay(name)
     } else {
         Command::Other
     }
