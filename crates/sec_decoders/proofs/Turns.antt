@@ -1,9 +1,9 @@
 -- A piece at the front, and then the rest.
-use Rattle.std.proofs.Common.{◌≡◌, ℕ, zero, suc, ◌-◌, ◌<◌, ◌≤◌, List, [], ◌∷◌, ◌++◌, length, take, drop, refl, sym, ap, ◌∙◌, arith, append_assoc, append-nil, true, false}
-use Rattle.std.proofs.lemmas.List.{take-append-le}
+use Rattle.std.proofs.Common.{◌≡◌, ℕ, zero, suc, ◌+◌, ◌-◌, ◌<◌, ◌≤◌, List, [], ◌∷◌, ◌++◌, length, take, drop, refl, sym, ap, ◌∙◌, arith, append_assoc, append-nil, length-append, length-take, true, false}
+use Rattle.std.proofs.lemmas.List.{take-append-le, take_all, take-append-drop}
 use Rattle.std.specs.Bool.{◌==◌}
 use Rattle.std.proofs.lemmas.Bool.Decides.{nat_tests}
-use Rattle.sec_decoders.specs.Pieces.{pieces}
+use Rattle.sec_decoders.specs.Pieces.{KeepsFront, pieces}
 
 pub skipped : (piece : List ℕ → List ℕ × ℕ) (n : ℕ) (xs : List ℕ) → pieces piece n xs ≡ pieces piece 0 (drop n xs)
 unfolding pieces
@@ -44,3 +44,24 @@ some_left (b ∷ bs) e = omega arith
 pub none_left : (xs : List ℕ) → (length xs == 0) ≡ true → xs ≡ []
 none_left [] e = refl
 none_left (b ∷ bs) e = grind (arith, nat_tests, e)
+
+-- bytes that stand for themselves are out
+pub after_plain : (piece : List ℕ → List ℕ × ℕ) (n : ℕ) (out whole xs : List ℕ) → out ++ pieces piece 0 xs ≡ whole → KeepsFront piece n xs → (out ++ take n xs) ++ pieces piece 0 (drop n xs) ≡ whole
+after_plain piece n out whole xs left kept =
+    append_assoc out (take n xs) (pieces piece 0 (drop n xs)) ∙ ap (λ (l : List ℕ). out ++ l) (sym kept) ∙ left
+
+-- they fill the room that is left
+pub filled : (piece : List ℕ → List ℕ × ℕ) (n room most : ℕ) (out plain whole xs : List ℕ) → out ++ pieces piece 0 xs ≡ whole → KeepsFront piece n xs → plain ≡ take n xs
+    → room + length out ≡ most → room ≤ length plain → out ++ take room plain ≡ take most whole
+filled piece n room most out plain whole xs left kept is sum fits =
+    let more = pieces piece 0 (drop n xs) in
+    let all : (out ++ plain) ++ more ≡ whole = rw is (after_plain piece n out whole xs left kept) in
+    let parts : plain ≡ take room plain ++ drop room plain = sym (take-append-drop room plain) in
+    let cut : (out ++ take room plain) ++ (drop room plain ++ more) ≡ whole =
+    append_assoc out (take room plain) (drop room plain ++ more)
+    ∙ ap (λ (l : List ℕ). out ++ l) (sym (append_assoc (take room plain) (drop room plain) more) ∙ ap (λ (l : List ℕ). l ++ more) (sym parts))
+    ∙ sym (append_assoc out plain more) ∙ all in
+    let long : length (out ++ take room plain) ≡ most = omega (arith, length-append out (take room plain), length-take room plain) in
+    let low : most ≤ length (out ++ take room plain) = omega arith in
+    let high : length (out ++ take room plain) ≤ most = omega arith in
+    sym (take_all most (out ++ take room plain) high) ∙ enough most (out ++ take room plain) (drop room plain ++ more) whole cut low

@@ -7,6 +7,10 @@ use Rattle.sec_decoders.specs.declared.characters.TheConstants.{PERCENT, SMALL_A
 use Rattle.sec_decoders.specs.declared.digits.TheConstants.{DECIMAL, HEXADECIMAL}
 use Rattle.sec_decoders.specs.declared.unicode.TheConstants.{MAX_LEAD_OF_FOUR, MAX_LEAD_OF_THREE, MAX_LEAD_OF_TWO, MAX_TAIL, MIN_LEAD_OF_FOUR, MIN_LEAD_OF_THREE, MIN_LEAD_OF_TWO, MIN_TAIL}
 
+-- neither the first byte of a sequence nor above all of these
+abbrev pub is_no_lead : ℕ → Bool
+is_no_lead c = nat_lt c MIN_LEAD_OF_TWO
+
 abbrev pub tail : ℕ → Bool
 tail c = within MIN_TAIL MAX_TAIL c
 

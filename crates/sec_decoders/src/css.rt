@@ -11,6 +11,7 @@ ghost use Rattle.sec_decoders.specs.declared.digits.TheConstants.{HEXADECIMAL};
 use crate::characters::{BACKSLASH, CARRIAGE_RETURN, LINE_FEED, SPACE, TAB};
 use crate::digits::{digit_of, is_hex};
 use crate::lengths::{MAX_CSS_DIGITS, PAIR};
+use crate::plain::len_before;
 use crate::url::narrow;
 use crate::{Decoder, Piece, decode};
 use std::alloc::Global;
@@ -29,6 +30,11 @@ struct Css;
 
 impl Decoder for Css {
     ghost piece = { css };
+
+    #[tactic(auto, using(crate::proofs::Kept::css_kept))]
+    fn plain_len(&self, text: &[u8]) -> usize {
+        len_before(BACKSLASH, text)
+    }
 
     fn piece(&self, front: &[u8]) -> Piece {
         if let Some((n, takes)) = number(front) {

@@ -14,6 +14,7 @@ use crate::characters::{
 };
 use crate::digits::{DECIMAL, HEXADECIMAL, is_hex, low_byte};
 use crate::lengths::{DECIMAL_REFERENCE, HEX_REFERENCE};
+use crate::plain::len_before;
 use crate::{Decoder, Piece, decode};
 use std::alloc::Global;
 use waf_plain::{Bytes, NoMemory};
@@ -31,6 +32,11 @@ struct Entities;
 
 impl Decoder for Entities {
     ghost piece = { entities };
+
+    #[tactic(auto, using(crate::proofs::Kept::entities_kept))]
+    fn plain_len(&self, text: &[u8]) -> usize {
+        len_before(AMPERSAND, text)
+    }
 
     fn piece(&self, front: &[u8]) -> Piece {
         if let Some((n, takes)) = hex_entity(front) {

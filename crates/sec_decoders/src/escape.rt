@@ -9,6 +9,7 @@ use crate::characters::{BACKSLASH, CAPITAL_X, SEVEN, SMALL_X, ZERO};
 use crate::digits::hex_pair;
 use crate::javascript::ansi_byte;
 use crate::lengths::{PAIR, X_ESCAPE};
+use crate::plain::len_before;
 use crate::{Decoder, Piece, decode};
 use std::alloc::Global;
 use waf_plain::{Bytes, NoMemory};
@@ -26,6 +27,11 @@ struct EscapeSequences;
 
 impl Decoder for EscapeSequences {
     ghost piece = { escape_sequences };
+
+    #[tactic(auto, using(crate::proofs::Kept::sequences_kept))]
+    fn plain_len(&self, text: &[u8]) -> usize {
+        len_before(BACKSLASH, text)
+    }
 
     fn piece(&self, front: &[u8]) -> Piece {
         if let Some(n) = pair(front) {

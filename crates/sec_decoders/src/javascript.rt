@@ -12,6 +12,7 @@ use crate::characters::{
 };
 use crate::digits::{hex_four, hex_pair};
 use crate::lengths::{FOUR_DIGIT_ESCAPE, PAIR, X_ESCAPE};
+use crate::plain::len_before;
 use crate::url::narrow;
 use crate::{Decoder, Piece, decode};
 use std::alloc::Global;
@@ -30,6 +31,11 @@ struct JavaScript;
 
 impl Decoder for JavaScript {
     ghost piece = { js };
+
+    #[tactic(auto, using(crate::proofs::Kept::js_kept))]
+    fn plain_len(&self, text: &[u8]) -> usize {
+        len_before(BACKSLASH, text)
+    }
 
     fn piece(&self, front: &[u8]) -> Piece {
         if let Some(n) = wide(front) {

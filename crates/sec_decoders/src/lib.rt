@@ -14,6 +14,7 @@ mod javascript;
 mod laws;
 mod lengths;
 mod pieces;
+mod plain;
 mod unicode;
 mod url;
 

@@ -1,5 +1,5 @@
-ghost use Rattle.std.specs.Prelude.{◌≡◌, ◌<◌, ◌≤◌, [], ◌∷◌, List, ℕ, length, take, IfOk};
-ghost use Rattle.sec_decoders.specs.Pieces.{pieces};
+ghost use Rattle.std.specs.Prelude.{◌≡◌, ◌<◌, ◌≤◌, ◌++◌, [], ◌∷◌, List, ℕ, length, take, IfOk};
+ghost use Rattle.sec_decoders.specs.Pieces.{KeepsFront, pieces};
 ghost use Rattle.sec_decoders.specs.declared.pieces.TheConstants.{LIMIT};
 
 use arrayvec::ArrayVec;
@@ -44,6 +44,12 @@ impl Piece {
 pub trait Decoder {
     ghost piece: { List ℕ → List ℕ × ℕ };
 
+    /// How many bytes at the front stand for themselves. It may be fewer than there are, which costs
+    /// time and changes nothing.
+    fn plain_len(&self, text: &[u8]) -> usize
+        ensures within { result ≤ length text.now }
+        ensures kept { KeepsFront piece result text.now };
+
     /// The piece at the front of a text that is not empty.
     fn piece(&self, front: &[u8]) -> Piece
         requires { 0 < length front.now }
@@ -53,8 +59,8 @@ pub trait Decoder {
         ensures within { result.takes ≤ length front.now };
 }
 
-/// The first `LIMIT` bytes of what the pieces of a value give, in one pass. What is written is not
-/// read again.
+/// The first `LIMIT` bytes of what the pieces of a value give, in one pass: what stands for itself
+/// is copied in runs. What is written is not read again.
 pub fn decode<D: Decoder>(alloc: Global, decoder: &D, value: &[u8]) -> Result<Bytes, NoMemory>
     ensures { IfOk result (λ bytes. bytes ≡ take LIMIT (pieces D.piece 0 value.now)) }
 {
@@ -65,10 +71,33 @@ pub fn decode<D: Decoder>(alloc: Global, decoder: &D, value: &[u8]) -> Result<By
             out.truncate(LIMIT);
             return Ok(out);
         }
-        let piece = decoder.piece(rest);
-        out.append(piece.gives.as_slice())?;
-        rest = rest.split_at(piece.takes).1;
+        let (plain, other) = rest.split_at(decoder.plain_len(rest));
+        let room = LIMIT - out.len();
+        if plain.len() >= room {
+            out.append(plain.split_at(room).0)?;
+            return Ok(out);
+        }
+        out.append(plain)?;
+        rest = take_piece(decoder, other, &mut out)?;
     }
     out.truncate(LIMIT);
     Ok(out)
+}
+
+/// Writes what the piece at the front gives, where there is one, and answers what follows it.
+fn take_piece<'a, D: Decoder>(
+    decoder: &D,
+    text: &'a [u8],
+    out: &mut Bytes,
+) -> Result<&'a [u8], NoMemory>
+    ensures left { IfOk result (λ rest. out.new ++ pieces D.piece 0 rest.now ≡ out.old ++ pieces D.piece 0 text.now) }
+    ensures within { IfOk result (λ rest. length rest.now ≤ length text.now) }
+    ensures moves { IfOk result (λ rest. 0 < length text.now → length rest.now < length text.now) }
+{
+    if text.is_empty() {
+        return Ok(text);
+    }
+    let piece = decoder.piece(text);
+    out.append(piece.gives.as_slice())?;
+    Ok(text.split_at(piece.takes).1)
 }

@@ -1,8 +1,9 @@
 ghost use Rattle.std.specs.Prelude.{◌≡◌, ◌<◌, ◌≤◌, ◌%◌, ◌^◌, ◌++◌, length, take, IfOk, IfSome};
+ghost use Rattle.std.specs.List.{take_while};
 ghost use Rattle.arrayvec.specs.ArrayVec.{array_vec_len};
 ghost use Rattle.sec_decoders.specs.Pieces.{pieces};
 ghost use Rattle.sec_decoders.specs.declared.pieces.TheConstants.{LIMIT};
-ghost use Rattle.sec_decoders.specs.Unicode.{letter, four_digits, shown, two, three, four, unicode};
+ghost use Rattle.sec_decoders.specs.Unicode.{is_no_lead, letter, four_digits, shown, two, three, four, unicode};
 ghost use Rattle.sec_decoders.specs.declared.digits.TheConstants.{HEXADECIMAL};
 
 use crate::characters::{PERCENT, SMALL_A, SMALL_U, ZERO};
@@ -44,6 +45,11 @@ struct Unicode;
 impl Decoder for Unicode {
     ghost piece = { unicode };
 
+    #[tactic(auto, using(crate::proofs::Kept::unicode_kept))]
+    fn plain_len(&self, text: &[u8]) -> usize {
+        len_before_lead(text)
+    }
+
     fn piece(&self, front: &[u8]) -> Piece {
         if let Some((n, takes)) = two(front) {
             let gives = shown(n);
@@ -59,6 +65,20 @@ impl Decoder for Unicode {
         }
         Piece::byte(front[0], 1)
     }
+}
+
+/// How many bytes there are before the first that two, three or four bytes may begin with.
+fn len_before_lead(text: &[u8]) -> usize
+    ensures count { result ≡ length (take_while is_no_lead text.now) }
+    ensures within { result ≤ length text.now }
+{
+    text.iter().take_while(|c| is_no_lead(**c)).count()
+}
+
+fn is_no_lead(byte: u8) -> bool
+    ensures { result ≡ is_no_lead byte }
+{
+    byte < MIN_LEAD_OF_TWO
 }
 
 fn two(front: &[u8]) -> Option<(u32, usize)>

@@ -8,6 +8,7 @@ ghost use Rattle.sec_decoders.specs.declared.lengths.TheConstants.{FOUR_DIGIT_ES
 use crate::characters::{CAPITAL_U, PERCENT, PLUS, SMALL_U, SPACE};
 use crate::digits::{hex_four, hex_pair};
 use crate::lengths::{FOUR_DIGIT_ESCAPE, PERCENT_ESCAPE};
+use crate::plain::len_before_either;
 use crate::{Decoder, Piece, decode};
 use std::alloc::Global;
 use waf_plain::{Bytes, NoMemory};
@@ -32,6 +33,11 @@ struct UrlUni;
 
 impl Decoder for UrlUni {
     ghost piece = { url_uni };
+
+    #[tactic(auto, using(crate::proofs::Kept::url_kept))]
+    fn plain_len(&self, text: &[u8]) -> usize {
+        len_before_either(PERCENT, PLUS, text)
+    }
 
     fn piece(&self, front: &[u8]) -> Piece {
         if let Some(n) = wide(front) {

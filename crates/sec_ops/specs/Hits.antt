@@ -8,6 +8,7 @@ use Rattle.std.specs.Str.{is_utf8}
 use Rattle.regex.specs.Bytes.{group_count, regex_pattern}
 use Rattle.regex.specs.Patterns.{Re, find}
 use Rattle.regex_syntax.specs.Grammar.{Names}
+use Rattle.phrase_set.specs.Phrases.{first_end, place_of}
 use Rattle.ip_set.specs.Membership.{is_in, is_member}
 use Rattle.sec_ast.specs.declared.operator.OpKind as kinds
 use Rattle.sec_ast.specs.declared.operator.OpKind.TheVariants.{Rx, Pm, Streq, Contains, BeginsWith, EndsWith, Within, Eq, Ge, Gt, Le, Lt, IpMatch, ValidateByteRange, ValidateUrlEncoding, ValidateUtf8Encoding, UnconditionalMatch}
@@ -21,7 +22,7 @@ use Rattle.sec_ops.specs.declared.built.Hit.TheVariants.{No, Yes}
 use Rattle.sec_ops.specs.Escapes.{has_bad_escape}
 use Rattle.sec_ops.specs.Number.{number}
 use Rattle.sec_ops.specs.Pattern.{between, reading_of, spans_of, hit_in, texts_in}
-use Rattle.sec_ops.specs.Phrases.{folded, first_end, place_of}
+use Rattle.sec_ops.specs.Phrases.{folded}
 use Rattle.sec_ops.specs.Ranges.{has_other, range_of}
 
 -- the texts of the groups, where it holds

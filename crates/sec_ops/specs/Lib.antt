@@ -1,3 +1,4 @@
+pub mod Askers
 pub mod Escapes
 pub mod Hits
 pub mod Number

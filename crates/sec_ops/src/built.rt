@@ -1,15 +1,17 @@
-ghost use Rattle.std.specs.Prelude.{◌≡◌, List, ℕ, [], None, IfOk, IfErr, IsErrOf, IsSome, is_some, map, nat_eq};
+ghost use Rattle.std.specs.Prelude.{◌≡◌, List, ℕ, [], None, IfOk, IfErr, IfSome, IsErrOf, IsSome, is_some, map, nat_eq};
 ghost use Rattle.std.specs.Cmp.Lexicographic.{pointwise};
 ghost use Rattle.sec_ast.specs.declared.operator.OpKind.TheVariants.{Rx, Pm, IpMatch, ValidateByteRange};
 ghost use Rattle.ip_set.specs.Blocks.{IsFirstBad};
+ghost use Rattle.sec_ops.specs.declared.built.Test.TheVariants.{Pattern};
 ghost use Rattle.sec_ops.specs.Hits.{IsBuiltFrom, IsBytes, groups_of, has, hit, hit_of, pattern_hit, phrase_hit, plain_test, source_of, source_reading, test_hit, when};
 
 use crate::escapes::{has_bad_escape, is_text};
 use crate::numbers::order_of;
 use crate::pattern::{compile, part, texts};
-use crate::phrases::{first_end, fold, fold_all, place};
+use crate::phrases::{fold, set_of};
 use crate::ranges::{Range, has_other, read_ranges};
 use ip_set::{IpFault, IpSet};
+use phrase_set::{PhraseSet, place};
 use regex::bytes::Regex;
 use sec_ast::{Op, OpKind, Part};
 use std::alloc::Global;
@@ -68,11 +70,23 @@ impl Model for Built {
     ghost invariant = { λ s. IsBuiltFrom s.test s.op.value };
 }
 
+impl Built {
+    /// The compiled pattern, where the operator is one.
+    pub(crate) fn pattern(&self) -> Option<&Regex>
+        ensures { IfSome result (λ regex. IsBuiltFrom (Pattern regex.now) self.now) }
+    {
+        match &self.test {
+            Test::Pattern(regex) => Some(regex),
+            _ => None,
+        }
+    }
+}
+
 #[derive(Drop)]
 enum Test {
     Pattern(Regex),
     /// In lower case.
-    Phrases(Seq<Bytes>),
+    Phrases(PhraseSet),
     Addresses(IpSet),
     Ranges(Seq<Range>),
     Plain(OpKind),
@@ -143,7 +157,7 @@ fn phrases_test(alloc: Global, words: &Seq<Bytes>) -> Result<Test, BuildFault>
         → test_hit test argument value ≡ hit_of Pm [] words.now argument value) }
     ensures err { IfErr result (λ e. e ≡ BuildFault.NoMemory) }
 {
-    match fold_all(alloc, words) {
+    match set_of(alloc, words) {
         Ok(phrases) => Ok(Test::Phrases(phrases)),
         Err(NoMemory) => Err(BuildFault::NoMemory),
     }
@@ -200,14 +214,14 @@ fn when(alloc: Global, is_hit: bool) -> Hit
     Hit::No
 }
 
-fn phrase_hit(alloc: Global, phrases: &Seq<Bytes>, value: &[u8]) -> Result<Hit, NoMemory>
+fn phrase_hit(alloc: Global, phrases: &PhraseSet, value: &[u8]) -> Result<Hit, NoMemory>
     ensures { IfOk result (λ hit. groups_of hit ≡ phrase_hit phrases.now value.now) }
 {
     let text = fold(alloc, value)?;
-    let Some((start, end)) = first_end(phrases.as_slice(), text.as_slice()) else {
+    let Some((start, end)) = phrases.find(text.as_slice()) else {
         return Ok(Hit::No);
     };
-    let found = Bytes::copy(alloc, part(value, start, end))?;
+    let found = Bytes::copy(alloc, part(value, start as usize, end as usize))?;
     let mut groups = Seq::new(alloc);
     groups.push(Some(found))?;
     Ok(Hit::Yes { groups })

@@ -4,6 +4,7 @@
 //! groups. The definition is `hit` in `specs/Hits.antt`.
 #![tactic(auto)]
 
+mod askers;
 mod built;
 mod characters;
 mod escapes;
@@ -14,6 +15,7 @@ mod phrases;
 mod ranges;
 mod selectors;
 
+pub use askers::Asker;
 pub use built::{BuildFault, Built, Hit, build, holds};
 pub use laws::phrases_end_first;
 pub use numbers::number;

@@ -36,9 +36,9 @@ fn builder(source: &str) -> RegexBuilder<'_>
 }
 
 /// A span for each group that took part.
-type Spans = Vec<Option<(usize, usize)>>;
+pub(crate) type Spans = Vec<Option<(usize, usize)>>;
 
-fn spans(alloc: Global, locations: &CaptureLocations) -> Result<Spans, NoMemory>
+pub(crate) fn spans(alloc: Global, locations: &CaptureLocations) -> Result<Spans, NoMemory>
     ensures { IfOk result
         (λ v. v.items ≡ map (location locations.now) (range_with_len 0 (location_count locations.now))) }
 {
@@ -77,7 +77,7 @@ pub(crate) fn texts(
     }
 }
 
-fn texts_of(
+pub(crate) fn texts_of(
     alloc: Global,
     spans: &[Option<(usize, usize)>],
     value: &[u8],

@@ -1,10 +1,7 @@
-ghost use Rattle.std.specs.Prelude.{◌≡◌, ◌+◌, List, [], ℕ, Some, get_or, length, map, take, IfOk};
-ghost use Rattle.std.specs.Option.{option_map};
-ghost use Rattle.std.specs.Char.{to_ascii_lowercase};
-ghost use Rattle.memchr.specs.Find.{FindsNeedle};
-ghost use Rattle.sec_ops.specs.Phrases.{IsFirstEnd, IsEarlier, folded, place_of, span_of, earlier, better, first_end};
+ghost use Rattle.std.specs.Prelude.{◌≡◌, map, IfOk};
+ghost use Rattle.sec_ops.specs.Phrases.{folded};
 
-use memchr::memmem;
+use phrase_set::PhraseSet;
 use std::alloc::Global;
 use waf_plain::{Bytes, NoMemory, Seq};
 
@@ -12,15 +9,11 @@ use waf_plain::{Bytes, NoMemory, Seq};
 pub(crate) fn fold(alloc: Global, text: &[u8]) -> Result<Bytes, NoMemory>
     ensures { IfOk result (λ bytes. bytes ≡ folded text.now) }
 {
-    let mut out = Bytes::new(alloc);
-    for byte in text {
-        out.push(byte.to_ascii_lowercase())?;
-    }
-    Ok(out)
+    Ok(Bytes::from_vec(text.to_ascii_lowercase(alloc)?))
 }
 
 /// The phrases with their letters in lower case.
-pub(crate) fn fold_all(alloc: Global, phrases: &Seq<Bytes>) -> Result<Seq<Bytes>, NoMemory>
+fn fold_all(alloc: Global, phrases: &Seq<Bytes>) -> Result<Seq<Bytes>, NoMemory>
     ensures { IfOk result (λ all. all ≡ map folded phrases.now) }
 {
     let mut all = Seq::new(alloc);
@@ -30,52 +23,10 @@ pub(crate) fn fold_all(alloc: Global, phrases: &Seq<Bytes>) -> Result<Seq<Bytes>
     Ok(all)
 }
 
-/// The first place of a needle in a text. The empty needle stands at 0.
-pub(crate) fn place(text: &[u8], needle: &[u8]) -> Option<usize>
-    ensures finds { FindsNeedle text.now needle.now 0 result }
-    ensures value { result ≡ place_of text.now needle.now }
+/// The set of the phrases in lower case.
+pub(crate) fn set_of(alloc: Global, words: &Seq<Bytes>) -> Result<PhraseSet, NoMemory>
+    ensures { IfOk result (λ set. set ≡ map folded words.now) }
 {
-    memmem::find(text, needle)
-}
-
-/// The occurrence of a phrase that ends first, the longest among those, phrases tried one by one.
-pub(crate) fn first_end(phrases: &[Bytes], text: &[u8]) -> Option<(usize, usize)>
-    ensures first { IsFirstEnd (length phrases.now) phrases.now text.now result }
-    ensures value { result ≡ first_end phrases.now text.now }
-{
-    let mut best = None;
-    for phrase in phrases {
-        best = best_with(best, text, phrase.as_slice());
-    }
-    best
-}
-
-/// The best occurrence so far, with one phrase more.
-fn best_with(best: Option<(usize, usize)>, text: &[u8], phrase: &[u8]) -> Option<(usize, usize)>
-    ensures first { (n : ℕ) (phrases : List (List ℕ)) → IsFirstEnd n phrases text.now best
-        → phrase.now ≡ get_or phrases n [] → IsFirstEnd (n + 1) phrases text.now result }
-    ensures value { result ≡ better best (span_of text.now phrase.now) }
-{
-    match place(text, phrase) {
-        None => best,
-        Some(start) => Some(earlier_of(best, (start, start + phrase.len()))),
-    }
-}
-
-/// The one that ends first, or the longer one.
-#[tactic(auto, unfolding(crate::specs::Phrases::earlier))]
-fn earlier_of(best: Option<(usize, usize)>, found: (usize, usize)) -> (usize, usize)
-    ensures order { IsEarlier best found result }
-    ensures value { better best (Some found) ≡ Some result }
-{
-    let Some(best) = best else {
-        return found;
-    };
-    if best.1 < found.1 {
-        return best;
-    }
-    if best.1 == found.1 && best.0 <= found.0 {
-        return best;
-    }
-    found
+    let phrases = fold_all(alloc, words)?;
+    PhraseSet::build(alloc, &phrases)
 }

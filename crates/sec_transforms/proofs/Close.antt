@@ -15,7 +15,7 @@ shorter a xs needle k o = record {
   reads = λ j below. (let e : suc (k + j) ≡ suc k + j = omega arith in ap (slice_index (a ∷ xs)) e ∙ o.reads j below);
 }
 
-longer : (a : ℕ) (xs needle : List ℕ) (k : ℕ) → OccursAt xs needle k → OccursAt (a ∷ xs) needle (suc k)
+pub longer : (a : ℕ) (xs needle : List ℕ) (k : ℕ) → OccursAt xs needle k → OccursAt (a ∷ xs) needle (suc k)
 longer a xs needle k o = record {
   fits = omega (arith, o.fits);
   reads = λ j below. (let e : suc k + j ≡ suc (k + j) = omega arith in ap (slice_index (a ∷ xs)) e ∙ o.reads j below);

@@ -1,6 +1,9 @@
 pub mod Chains
 pub mod Close
+pub mod Fronts
 pub mod Joins
+pub mod Names
+pub mod Quiet
 pub mod Steps
 pub mod Trims
 pub mod Whiles

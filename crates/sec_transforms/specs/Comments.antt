@@ -1,5 +1,5 @@
 -- Comments between `/*` and `*/`, and the marks of comments.
-use Rattle.std.specs.Prelude.{ℕ, Bool, ◌+◌, List, [], ◌∷◌, Option, Some, None, cond, ◌&&◌, ◌||◌, ◌==◌}
+use Rattle.std.specs.Prelude.{ℕ, Bool, ◌+◌, List, [], ◌∷◌, Option, Some, None, not, cond, ◌&&◌, ◌||◌, ◌==◌}
 use Rattle.sec_decoders.specs.Pieces.{Piece, or_else, itself}
 use Rattle.sec_decoders.specs.declared.characters.TheConstants.{GREATER_THAN, HASH, LESS_THAN, SPACE}
 use Rattle.sec_transforms.specs.declared.characters.TheConstants.{ASTERISK, EXCLAMATION_MARK, MINUS, SLASH}
@@ -44,6 +44,10 @@ two_marks other = None
 abbrev pub hash_mark : List ℕ → Option Piece
 hash_mark (a ∷ rest) = cond (a == HASH) (Some ([], 1)) None
 hash_mark [] = None
+
+-- neither `<`, `-`, `/`, `*` nor `#`
+abbrev pub begins_no_mark : ℕ → Bool
+begins_no_mark c = not (c == LESS_THAN || c == MINUS || c == SLASH || c == ASTERISK || c == HASH)
 
 -- a mark gives nothing, the longest that stands at a place first
 abbrev pub comment_marks : List ℕ → Piece

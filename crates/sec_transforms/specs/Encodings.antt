@@ -7,7 +7,7 @@ use Rattle.sec_decoders.specs.Digits.{is_decimal, within}
 use Rattle.sec_decoders.specs.Pieces.{Piece}
 use Rattle.sec_decoders.specs.declared.characters.TheConstants.{CAPITAL_A, CARRIAGE_RETURN, LINE_FEED, PLUS, SMALL_A, ZERO}
 use Rattle.sec_transforms.specs.declared.characters.TheConstants.{CAPITAL_Z, SLASH, SMALL_Z}
-use Rattle.sec_transforms.specs.declared.encodings.TheConstants.{DIGITS, PLUS_SEXTET, SLASH_SEXTET, SMALL_LETTERS}
+use Rattle.sec_transforms.specs.declared.letters.TheConstants.{DIGITS, PLUS_SEXTET, SLASH_SEXTET, SMALL_LETTERS}
 
 -- a letter of the alphabet of base64 (RFC 4648, section 4)
 abbrev pub is_letter : ℕ → Bool

@@ -5,6 +5,7 @@ ghost use Rattle.sec_transforms.specs.Alphabets.{is_not_null, null_as_space, plu
 
 use crate::characters::SLASH;
 use crate::limit::cut;
+use memchr::memchr;
 use sec_decoders::characters::{BACKSLASH, PLUS, SPACE};
 use std::alloc::Global;
 use waf_plain::{Bytes, NoMemory};
@@ -30,26 +31,6 @@ pub(crate) fn mapped<A: Alphabet>(
         out.push(alphabet.image(*byte))?;
     }
     Ok(out)
-}
-
-struct Lower;
-
-impl Alphabet for Lower {
-    ghost image = { to_ascii_lowercase };
-
-    fn image(&self, byte: u8) -> u8 {
-        byte.to_ascii_lowercase()
-    }
-}
-
-struct Upper;
-
-impl Alphabet for Upper {
-    ghost image = { to_ascii_uppercase };
-
-    fn image(&self, byte: u8) -> u8 {
-        byte.to_ascii_uppercase()
-    }
 }
 
 struct NullsAsSpaces;
@@ -88,14 +69,14 @@ impl Alphabet for Slashes {
 pub(crate) fn lowercase(alloc: Global, value: &[u8]) -> Result<Bytes, NoMemory>
     ensures { IfOk result (λ bytes. bytes ≡ take LIMIT (map to_ascii_lowercase value.now)) }
 {
-    Ok(cut(mapped(alloc, &Lower, value)?))
+    Ok(cut(Bytes::from_vec(value.to_ascii_lowercase(alloc)?)))
 }
 
 /// `uppercase`.
 pub(crate) fn uppercase(alloc: Global, value: &[u8]) -> Result<Bytes, NoMemory>
     ensures { IfOk result (λ bytes. bytes ≡ take LIMIT (map to_ascii_uppercase value.now)) }
 {
-    Ok(cut(mapped(alloc, &Upper, value)?))
+    Ok(cut(Bytes::from_vec(value.to_ascii_uppercase(alloc)?)))
 }
 
 /// `replaceNulls`.
@@ -105,14 +86,23 @@ pub(crate) fn replace_nulls(alloc: Global, value: &[u8]) -> Result<Bytes, NoMemo
     Ok(cut(mapped(alloc, &NullsAsSpaces, value)?))
 }
 
-/// `removeNulls`.
-pub(crate) fn remove_nulls(alloc: Global, value: &[u8]) -> Result<Bytes, NoMemory>
-    ensures { IfOk result (λ bytes. bytes ≡ take LIMIT (filter is_not_null value.now)) }
+fn without_nulls(alloc: Global, value: &[u8]) -> Result<Bytes, NoMemory>
+    ensures { IfOk result (λ bytes. bytes ≡ filter is_not_null value.now) }
 {
     let kept = value
         .iter()
         .copied()
         .filter(|byte| *byte != 0)
         .collect(alloc)?;
-    Ok(cut(Bytes::from_vec(kept)))
+    Ok(Bytes::from_vec(kept))
+}
+
+/// `removeNulls`.
+pub(crate) fn remove_nulls(alloc: Global, value: &[u8]) -> Result<Bytes, NoMemory>
+    ensures { IfOk result (λ bytes. bytes ≡ take LIMIT (filter is_not_null value.now)) }
+{
+    match memchr(0, value) {
+        None => Ok(cut(Bytes::copy(alloc, value)?)),
+        Some(_) => Ok(cut(without_nulls(alloc, value)?)),
+    }
 }

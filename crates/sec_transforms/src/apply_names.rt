@@ -5,9 +5,9 @@ use crate::alphabets::{lowercase, remove_nulls, replace_nulls, uppercase};
 use crate::command::cmd_line;
 use crate::comments::{remove_comment_marks, replace_comments};
 use crate::encodings::{
-    base64_decode, base64_encode, hex_decode, hex_encode, length_text, md5_digest, sha1_digest,
-    url_decode,
+    base64_encode, hex_decode, hex_encode, length_text, md5_digest, sha1_digest, url_decode,
 };
+use crate::letters::base64_decode;
 use crate::paths::{normalize_path, normalize_path_win};
 use crate::whitespace::{compress_whitespace, remove_whitespace, trim, trim_left, trim_right};
 use sec_ast::Transform;
@@ -56,11 +56,23 @@ pub fn apply(alloc: Global, name: Transform, value: &[u8]) -> Result<Bytes, NoMe
 }
 
 /// One transformation after the other, from left to right. The empty chain gives the whole value.
+#[tactic(auto, unfolding(crate::specs::Apply::chained))]
 pub fn apply_chain(alloc: Global, names: &Seq<Transform>, value: &[u8]) -> Result<Bytes, NoMemory>
     ensures { IfOk result (λ bytes. bytes ≡ chained names.now value.now) }
 {
-    let mut held = Bytes::copy(alloc, value)?;
-    for name in names.as_slice() {
+    let Some((first, others)) = names.as_slice().split_first() else {
+        return Ok(Bytes::copy(alloc, value)?);
+    };
+    let held = apply(alloc, *first, value)?;
+    Ok(apply_others(alloc, others, held)?)
+}
+
+/// The rest of a chain on what its first transformation gave.
+fn apply_others(alloc: Global, names: &[Transform], value: Bytes) -> Result<Bytes, NoMemory>
+    ensures { IfOk result (λ bytes. bytes ≡ chained names.now value) }
+{
+    let mut held = value;
+    for name in names {
         held = apply(alloc, *name, held.as_slice())?;
     }
     Ok(held)

@@ -1,9 +1,11 @@
-ghost use Rattle.std.specs.Prelude.{◌≡◌, ◌++◌, [], ◌∷◌, List, ℕ, take, IfOk, OnOk, IfSome, IsTrue, ◌↔◌};
+ghost use Rattle.std.specs.Prelude.{◌≡◌, ◌++◌, [], ◌∷◌, List, ℕ, map, take, IfOk, OnOk, IfSome, IsTrue, ◌↔◌};
 ghost use Rattle.std.specs.Char.{to_ascii_lowercase};
 ghost use Rattle.sec_decoders.specs.declared.pieces.TheConstants.{LIMIT};
-ghost use Rattle.sec_transforms.specs.CmdLine.{cmd_line, to_come, is_mark, is_blank, closes};
+ghost use Rattle.sec_transforms.specs.CmdLine.{closed_up, cmd_line, squeezed, to_come, is_mark, is_blank, closes};
 
+use crate::absence::{LONG, lacks, lacks_bytes};
 use crate::characters::{CIRCUMFLEX, COMMA, OPENING_PARENTHESIS, SINGLE_QUOTE, SLASH};
+use crate::limit::cut;
 use sec_decoders::LIMIT;
 use sec_decoders::characters::{
     BACKSLASH, CARRIAGE_RETURN, LINE_FEED, QUOTE, SEMICOLON, SPACE, TAB,
@@ -13,6 +15,47 @@ use waf_plain::{Bytes, NoMemory};
 
 /// `cmdLine`: the ways to write a command that shells read alike.
 pub(crate) fn cmd_line(alloc: Global, value: &[u8]) -> Result<Bytes, NoMemory>
+    ensures { IfOk result (λ bytes. bytes ≡ take LIMIT (cmd_line value.now)) }
+{
+    if is_quiet(value) {
+        return Ok(cut(Bytes::from_vec(value.to_ascii_lowercase(alloc)?)));
+    }
+    line_of(alloc, value)
+}
+
+/// Whether a value is long, and nothing of it changes but its letters.
+fn is_quiet(text: &[u8]) -> bool
+    ensures { IsTrue result → cmd_line text.now ≡ map to_ascii_lowercase text.now }
+{
+    if text.len() < LONG {
+        return false;
+    }
+    if !lacks_bytes(text, BACKSLASH, QUOTE, SINGLE_QUOTE) {
+        return false;
+    }
+    if !lacks_bytes(text, CIRCUMFLEX, COMMA, SEMICOLON) {
+        return false;
+    }
+    if !lacks_bytes(text, TAB, LINE_FEED, CARRIAGE_RETURN) {
+        return false;
+    }
+    keeps_spaces(text)
+}
+
+/// Whether each space stays where nothing else changes.
+fn keeps_spaces(text: &[u8]) -> bool
+    ensures { IsTrue result → closed_up (squeezed text.now) ≡ text.now }
+{
+    if !lacks(text, b"  ") {
+        return false;
+    }
+    if !lacks(text, b" /") {
+        return false;
+    }
+    lacks(text, b" (")
+}
+
+fn line_of(alloc: Global, value: &[u8]) -> Result<Bytes, NoMemory>
     ensures { IfOk result (λ bytes. bytes ≡ take LIMIT (cmd_line value.now)) }
 {
     let mut line = Line {

@@ -1,7 +1,10 @@
-ghost use Rattle.std.specs.Prelude.{◌≡◌, ◌≤◌, [], length, take, cond, Some, None, IfOk, IsTrue};
+ghost use Rattle.std.specs.Prelude.{◌≡◌, ◌≤◌, [], ◌∷◌, length, take, cond, Some, None, IfOk, IsTrue};
+ghost use Rattle.std.specs.List.{take_while};
+ghost use Rattle.memchr.specs.Find.{Nowhere, OccursAt};
 ghost use Rattle.sec_decoders.specs.Pieces.{pieces};
 ghost use Rattle.sec_decoders.specs.declared.pieces.TheConstants.{LIMIT};
-ghost use Rattle.sec_transforms.specs.Comments.{to_close, comments, comment_marks, html_open, html_close, two_marks, is_pair};
+ghost use Rattle.sec_transforms.specs.Comments.{begins_no_mark, to_close, comments, comment_marks, html_open, html_close, two_marks, is_pair};
+ghost use Rattle.sec_transforms.specs.declared.characters.TheConstants.{ASTERISK, SLASH};
 ghost use Rattle.sec_transforms.specs.declared.comments.TheConstants.{HTML_CLOSE_LENGTH, HTML_OPEN_LENGTH, PAIR_LENGTH};
 
 use crate::characters::{ASTERISK, EXCLAMATION_MARK, MINUS, SLASH};
@@ -31,6 +34,11 @@ struct Comments;
 impl Decoder for Comments {
     ghost piece = { comments };
 
+    #[tactic(auto, using(crate::proofs::Fronts::comments_kept))]
+    fn plain_len(&self, text: &[u8]) -> usize {
+        before_comment(text)
+    }
+
     fn piece(&self, front: &[u8]) -> Piece {
         match front {
             [SLASH, ASTERISK, ..] => {
@@ -38,6 +46,17 @@ impl Decoder for Comments {
             },
             _ => Piece::byte(front[0], 1),
         }
+    }
+}
+
+/// How many bytes there are before the first `/*`, and all of them where there is none.
+fn before_comment(text: &[u8]) -> usize
+    ensures within { result ≤ length text.now }
+    ensures none { Nowhere (OccursAt text.now (SLASH ∷ ASTERISK ∷ [])) 0 result }
+{
+    match memmem::find(text, b"/*") {
+        Some(at) => at,
+        None => text.len(),
     }
 }
 
@@ -65,6 +84,11 @@ struct Marks;
 impl Decoder for Marks {
     ghost piece = { comment_marks };
 
+    #[tactic(auto, using(crate::proofs::Fronts::marks_kept))]
+    fn plain_len(&self, text: &[u8]) -> usize {
+        before_mark(text)
+    }
+
     fn piece(&self, front: &[u8]) -> Piece {
         if is_html_open(front) {
             return Piece::nothing(HTML_OPEN_LENGTH);
@@ -80,6 +104,20 @@ impl Decoder for Marks {
         }
         Piece::byte(front[0], 1)
     }
+}
+
+/// How many bytes there are before the first that a mark may begin with.
+fn before_mark(text: &[u8]) -> usize
+    ensures count { result ≡ length (take_while begins_no_mark text.now) }
+    ensures within { result ≤ length text.now }
+{
+    text.iter().take_while(|c| begins_no_mark(**c)).count()
+}
+
+fn begins_no_mark(byte: u8) -> bool
+    ensures { result ≡ begins_no_mark byte }
+{
+    !matches!(byte, LESS_THAN | MINUS | SLASH | ASTERISK | HASH)
 }
 
 fn is_html_open(front: &[u8]) -> bool

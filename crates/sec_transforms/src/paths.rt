@@ -1,4 +1,4 @@
-ghost use Rattle.std.specs.Prelude.{◌≡◌, ◌==◌, ◌++◌, [], ◌∷◌, List, ℕ, map, take, IfOk, OnOk, OnErr, Bool, cond};
+ghost use Rattle.std.specs.Prelude.{◌≡◌, ◌==◌, ◌++◌, [], ◌∷◌, List, ℕ, map, take, IfOk, OnOk, OnErr, IsTrue, Bool, cond};
 ghost use Rattle.std.specs.Borrow.{Bor};
 ghost use Rattle.std.specs.List.{slice_split, join_with_byte};
 ghost use Rattle.sec_decoders.specs.declared.pieces.TheConstants.{LIMIT};
@@ -8,12 +8,36 @@ ghost use Rattle.sec_transforms.specs.declared.characters.TheConstants.{SLASH};
 
 use crate::alphabets::{Slashes, mapped};
 use crate::characters::{DOT, SLASH};
+use crate::limit::cut;
+use memchr::memchr;
 use sec_decoders::LIMIT;
 use std::alloc::Global;
 use waf_plain::{Bytes, NoMemory};
 
 /// `normalizePath`.
 pub(crate) fn normalize_path(alloc: Global, value: &[u8]) -> Result<Bytes, NoMemory>
+    ensures { IfOk result (λ bytes. bytes ≡ take LIMIT (path value.now)) }
+{
+    if is_one_name(value) {
+        return Ok(cut(Bytes::copy(alloc, value)?));
+    }
+    of_pieces(alloc, value)
+}
+
+/// Whether a value stays: it has no `/`, and is longer than `.`.
+fn is_one_name(value: &[u8]) -> bool
+    ensures { IsTrue result → path value.now ≡ value.now }
+{
+    if value.len() < 2 {
+        return false;
+    }
+    match memchr(SLASH, value) {
+        None => true,
+        Some(_) => false,
+    }
+}
+
+fn of_pieces(alloc: Global, value: &[u8]) -> Result<Bytes, NoMemory>
     ensures { IfOk result (λ bytes. bytes ≡ take LIMIT (path value.now)) }
 {
     let rooted = starts_at_root(value);

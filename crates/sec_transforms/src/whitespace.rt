@@ -1,11 +1,14 @@
-ghost use Rattle.std.specs.Prelude.{◌≡◌, ◌≤◌, length, take, filter, not, IfOk};
+ghost use Rattle.std.specs.Prelude.{◌≡◌, ◌≤◌, [], ◌∷◌, List, ℕ, IsTrue, length, take, filter, not, IfOk};
 ghost use Rattle.std.specs.List.{take_while};
-ghost use Rattle.sec_decoders.specs.Pieces.{pieces};
+ghost use Rattle.sec_decoders.specs.Pieces.{KeepsFront, pieces};
 ghost use Rattle.sec_decoders.specs.declared.pieces.TheConstants.{LIMIT};
 ghost use Rattle.sec_transforms.specs.Whitespace.{is_white, is_wide, run, trimmed_left, trimmed_right};
 
+use crate::absence::{LONG, lacks, lacks_bytes};
 use crate::limit::cut;
-use sec_decoders::characters::{CARRIAGE_RETURN, NO_BREAK_SPACE, SPACE, TAB};
+use sec_decoders::characters::{
+    CARRIAGE_RETURN, FORM_FEED, LINE_FEED, NO_BREAK_SPACE, SPACE, TAB, VERTICAL_TAB,
+};
 use sec_decoders::{Decoder, Piece, decode};
 use std::alloc::Global;
 use waf_plain::{Bytes, NoMemory};
@@ -14,7 +17,26 @@ use waf_plain::{Bytes, NoMemory};
 pub(crate) fn compress_whitespace(alloc: Global, value: &[u8]) -> Result<Bytes, NoMemory>
     ensures { IfOk result (λ bytes. bytes ≡ take LIMIT (pieces run 0 value.now)) }
 {
+    if is_tidy(value) {
+        return copy_of(alloc, value);
+    }
     decode(alloc, &Runs, value)
+}
+
+/// Whether a value is long, and all its wide whitespace is single spaces.
+fn is_tidy(text: &[u8]) -> bool
+    ensures { IsTrue result → pieces run 0 text.now ≡ text.now }
+{
+    if text.len() < LONG {
+        return false;
+    }
+    if !lacks_bytes(text, TAB, LINE_FEED, CARRIAGE_RETURN) {
+        return false;
+    }
+    if !lacks_bytes(text, VERTICAL_TAB, FORM_FEED, NO_BREAK_SPACE) {
+        return false;
+    }
+    lacks(text, b"  ")
 }
 
 /// Runs of wide whitespace.
@@ -23,11 +45,39 @@ struct Runs;
 impl Decoder for Runs {
     ghost piece = { run };
 
+    fn plain_len(&self, text: &[u8]) -> usize {
+        spaced_len(text)
+    }
+
     fn piece(&self, front: &[u8]) -> Piece {
         match front.split_first() {
             Some((first, rest)) if is_wide(*first) => Piece::byte(SPACE, 1 + run_len(rest)),
             _ => Piece::byte(front[0], 1),
         }
+    }
+}
+
+/// How many bytes at the front are not wide whitespace, or single spaces.
+fn spaced_len(text: &[u8]) -> usize
+    ensures within { result ≤ length text.now }
+    ensures kept { KeepsFront run result text.now }
+{
+    let mut count = 0;
+    while stands(text.split_at(count).1) {
+        count += 1;
+    }
+    count
+}
+
+/// Whether a byte at the front stands for itself.
+fn stands(front: &[u8]) -> bool
+    ensures { IsTrue result → (b : ℕ) × (rest : List ℕ) × (front.now ≡ b ∷ rest) × (run front.now ≡ (b ∷ [], 1)) }
+{
+    match front {
+        [SPACE, b, ..] => !is_wide(*b),
+        [SPACE] => true,
+        [b, ..] => !is_wide(*b),
+        [] => false,
     }
 }
 
@@ -42,12 +92,15 @@ fn run_len(text: &[u8]) -> usize
 pub(crate) fn remove_whitespace(alloc: Global, value: &[u8]) -> Result<Bytes, NoMemory>
     ensures { IfOk result (λ bytes. bytes ≡ take LIMIT (filter (λ c. not (is_wide c)) value.now)) }
 {
-    let kept = value
-        .iter()
-        .copied()
-        .filter(|byte| !is_wide(*byte))
-        .collect(alloc)?;
-    Ok(cut(Bytes::from_vec(kept)))
+    Ok(cut(without_wide(alloc, value)?))
+}
+
+fn without_wide(alloc: Global, value: &[u8]) -> Result<Bytes, NoMemory>
+    ensures { IfOk result (λ bytes. bytes ≡ filter (λ c. not (is_wide c)) value.now) }
+{
+    let mut kept = Vec::from_slice(alloc, value)?;
+    kept.retain(|byte| !is_wide(*byte));
+    Ok(Bytes::from_vec(kept))
 }
 
 /// `trim`.

@@ -1,0 +1,4 @@
+pub mod Earliest
+pub mod Joined
+pub mod Nearer
+pub mod PhraseLaw
