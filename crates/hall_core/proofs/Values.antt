@@ -16,8 +16,8 @@ use Rattle.hall_core.specs.Rows.{without, changed}
 use Rattle.hall_core.specs.State.{State, runs, waits, is_next, parked}
 use Rattle.hall_core.specs.Step.{allows, after, starts, Holds}
 use Rattle.hall_core.specs.Kept.{ClaimsAs, Legal, ParksAs, WasParked, left_by}
-use Rattle.hall_core.proofs.Moves.{runs_is}
-use Rattle.hall_core.proofs.Keeping.{legal_last}
+use Rattle.hall_core.specs.Moves.{runs_is}
+use Rattle.hall_core.specs.Keeping.{legal_last}
 
 module _ {A : Type 0} where
   at_before : (xs ys : List A) (i : ℕ) (a : A) → get_elem? xs i ≡ maybe.some a → get_elem? (xs ++ ys) i ≡ maybe.some a

@@ -6,3 +6,7 @@ pub mod Acted
 pub mod Least
 pub mod Kept
 pub mod Promised
+pub mod Totals
+pub mod Moves
+pub mod Keeping
+pub mod Shared

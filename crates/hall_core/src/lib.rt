@@ -24,6 +24,7 @@ mod shard;
 mod acts;
 mod hall;
 mod laws;
+mod object;
 mod rows;
 mod scan;
 mod turns;

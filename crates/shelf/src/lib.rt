@@ -15,6 +15,7 @@ mod apps;
 mod calls;
 mod laws;
 mod lookup;
+mod object;
 mod shelf;
 mod turns;
 

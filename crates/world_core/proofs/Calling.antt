@@ -14,7 +14,7 @@ use Rattle.hall_core.specs.declared.calls.Call.TheVariants as calls
 use Rattle.hall_core.specs.declared.calls.Reply as answering
 use Rattle.hall_core.specs.declared.calls.Reply.TheVariants as answers
 use Rattle.hall_core.specs.Step as turn
-use Rattle.hall_core.proofs.Keeping.{entered_runs}
+use Rattle.hall_core.specs.Keeping.{entered_runs}
 use Rattle.world_core.specs.World.{Halls}
 use Rattle.world_core.specs.Acts.{Called}
 use Rattle.world_core.specs.Standing.{AreNumbered, Runs}

@@ -7,7 +7,7 @@ use Rattle.hall_core.specs.Kept.{one, running, total}
 use Rattle.hall_core.specs.Rows.{changed}
 use Rattle.hall_core.specs.State as table
 use Rattle.hall_core.specs.Step.{IsRunning}
-use Rattle.hall_core.proofs.Totals.{none_counted, total_without}
+use Rattle.hall_core.specs.Totals.{none_counted, total_without}
 use Rattle.conn_core.specs.Stands.{Stands, spent_in, tickets_in}
 use Rattle.conn_core.specs.Trace.{held_by}
 use Rattle.conn_core.proofs.Served.{plain_when}

@@ -20,8 +20,8 @@ use Rattle.hall_core.specs.declared.calls.Reply.TheVariants as answers
 use Rattle.hall_core.specs.Kept.{one, running, total, spends, gives}
 use Rattle.hall_core.specs.State as table
 use Rattle.hall_core.specs.Step as turn
-use Rattle.hall_core.proofs.Moves.{moves}
-use Rattle.hall_core.proofs.Totals.{total_changed, total_snoc}
+use Rattle.hall_core.specs.Moves.{moves}
+use Rattle.hall_core.specs.Totals.{total_changed, total_snoc}
 use Rattle.conn_core.specs.declared.seen.Seen.{Seen}
 use Rattle.conn_core.specs.Stands.{opening, replied, served, spent_in, tickets_in}
 use Rattle.conn_core.specs.Trace as needs

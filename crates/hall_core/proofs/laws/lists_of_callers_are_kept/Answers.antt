@@ -1,5 +1,5 @@
 use Rattle.hall_core.specs.Promised.{call_of, reply_of}
-use Rattle.hall_core.proofs.Keeping.{kept_first, kept_call, kept_new, kept_join, may_fitting}
+use Rattle.hall_core.specs.Keeping.{kept_first, kept_call, kept_new, kept_join, may_fitting}
 use Rattle.hall_core.proofs.laws.lists_of_callers_are_kept.Goals as goal
 
 pub returns-clause-first : goal.returns-clause-first

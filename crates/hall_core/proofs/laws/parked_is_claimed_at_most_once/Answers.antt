@@ -1,5 +1,5 @@
 use Rattle.hall_core.specs.Promised.{call_of, reply_of}
-use Rattle.hall_core.proofs.Keeping.{claimed_by, claimed_once}
+use Rattle.hall_core.specs.Keeping.{claimed_by, claimed_once}
 use Rattle.hall_core.proofs.Values.{claimed_as_parked}
 use Rattle.hall_core.proofs.laws.parked_is_claimed_at_most_once.Goals as goal
 

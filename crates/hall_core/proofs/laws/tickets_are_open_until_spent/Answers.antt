@@ -3,7 +3,7 @@ use Rattle.hall_core.specs.declared.calls.Call.TheVariants.{Enter}
 use Rattle.hall_core.specs.declared.calls.Entry.TheVariants.{Entered}
 use Rattle.hall_core.specs.declared.calls.Reply.TheVariants.{OfEnter}
 use Rattle.hall_core.specs.Promised.{call_of, reply_of}
-use Rattle.hall_core.proofs.Keeping.{fresh_open, stays_open}
+use Rattle.hall_core.specs.Keeping.{fresh_open, stays_open}
 use Rattle.hall_core.proofs.laws.tickets_are_open_until_spent.Goals as goal
 
 pub returns-clause-fresh : goal.returns-clause-fresh

@@ -1,4 +1,4 @@
-use Rattle.hall_core.proofs.Keeping.{entered_runs}
+use Rattle.hall_core.specs.Keeping.{entered_runs}
 use Rattle.trials.proofs.hall.leaves.Goals as goal
 
 pub leave-requires : goal.leave-requires

@@ -1,4 +1,4 @@
-use Rattle.hall_core.proofs.Keeping.{entered_runs}
+use Rattle.hall_core.specs.Keeping.{entered_runs}
 use Rattle.trials.proofs.hall.parks.Goals as goal
 
 pub park-requires : goal.park-requires

@@ -16,8 +16,8 @@ use Rattle.hall_core.specs.declared.calls.Reply.TheVariants.{OfEnter}
 use Rattle.hall_core.specs.State.{State, IsQuiet, runs}
 use Rattle.hall_core.specs.Step.{may, allows, after, starts, IsEntry, IsRunning}
 use Rattle.hall_core.specs.Kept.{total, one, once, gives, spends, parks, claims, running, sitting, keyed, sitting_until, parks_until_in, Kept, fits, IsOpen, given_in, spent_in, parks_in, claims_in, Legal, left_by}
-use Rattle.hall_core.proofs.Totals.{total_set, total_snoc, total_at, total_le, alone, at_set, at_snoc, set_else}
-use Rattle.hall_core.proofs.Moves.{moves, once_le, found_running, running_found, none_until}
+use Rattle.hall_core.specs.Totals.{total_set, total_snoc, total_at, total_le, alone, at_set, at_snoc, set_else}
+use Rattle.hall_core.specs.Moves.{moves, once_le, found_running, running_found, none_until}
 
 -- spending a ticket that is open
 spend_one : (n k a b : ℕ) → (n ≡ k → (a ≡ 1) × (b ≡ 0)) → b ≤ a → b + one (nat_eq k n) ≤ a
@@ -61,7 +61,7 @@ module _ {P : Type 0} where
 
 module _ {P E : Type 0} (call_of : E → Call P) (reply_of : E → Reply P) where
   -- a caller's own list after a call that fits it
-  own_grows : (own : List E) (c : Call P) (r : Reply P) → fits call_of reply_of own c → ((n : ℕ) → spent_in call_of n own ≤ given_in reply_of n own) → (n : ℕ) → spent_in call_of n own + spends n c ≤ given_in reply_of n own + gives n r
+  pub own_grows : (own : List E) (c : Call P) (r : Reply P) → fits call_of reply_of own c → ((n : ℕ) → spent_in call_of n own ≤ given_in reply_of n own) → (n : ℕ) → spent_in call_of n own + spends n c ≤ given_in reply_of n own + gives n r
   own_grows own (Enter key) r f o n = let p = o n in omega arith
   own_grows own (Resume key) r f o n = let p = o n in omega arith
   own_grows own (Expire now) r f o n = let p = o n in omega arith
@@ -164,6 +164,10 @@ module _ {P E : Type 0} (call_of : E → Call P) (reply_of : E → Reply P) wher
   along s done [] k h = subst (λ (l : List E). Kept call_of reply_of s (l ∷ [])) (sym (append-nil done)) k
   along s done (e ∷ es) k h = subst (λ (l : List E). Kept call_of reply_of (left_by call_of reply_of (after s (call_of e) (reply_of e)) es) (l ∷ [])) (append_assoc done (e ∷ []) es)
       (along (after s (call_of e) (reply_of e)) (done ++ e ∷ []) es (kept_call s (done ∷ []) 0 done e k refl (fits_all s done (call_of e) k h.0) h.0 h.1) h.2)
+
+  -- each number was given at most once
+  pub given_once : (s : State P) (log : List E) (n : ℕ) → starts s → Legal call_of reply_of s log → given_in reply_of n log ≤ 1
+  given_once s log n z h = let k = along s [] log (kept_first s z) h in let a = k.given n in let b = once_le n (left_by call_of reply_of s log).given in omega arith
 
   -- each number was given at most once, parked at most as often as it was given, and claimed as often as it was parked and is not parked any more
   pub claimed_once : (s : State P) (log : List E) (n : ℕ) → starts s → Legal call_of reply_of s log

@@ -17,7 +17,7 @@ use Rattle.hall_core.specs.Rows.{without}
 use Rattle.hall_core.specs.State.{State, same_key, is_running, has_key, runs, waits, is_next, is_first_of, due_as, parked, IsQuiet}
 use Rattle.hall_core.specs.Step.{may, allows, after, Holds, IsRunning}
 use Rattle.hall_core.specs.Kept.{one, once, gives, spends, parks, claims, sits, running, sitting, keyed, has_deadline, sits_until, parks_until, sitting_until}
-use Rattle.hall_core.proofs.Totals.{total_snoc, total_without, total_changed, total_stays, found_passes, none_counted, none_found}
+use Rattle.hall_core.specs.Totals.{total_snoc, total_without, total_changed, total_stays, found_passes, none_counted, none_found}
 
 pub once_next : (n g : ℕ) → once n (g + 1) ≡ once n g + one (nat_eq (g + 1) n)
 once_next n g = grind (arith, tests)

@@ -1,0 +1,5 @@
+pub mod Places
+pub mod Histories
+pub mod Turns
+pub mod Splitting
+pub mod Joining
