@@ -1,0 +1,4 @@
+pub mod Firsts
+pub mod Nodes
+pub mod Settling
+pub mod Counts
