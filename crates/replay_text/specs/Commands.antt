@@ -38,9 +38,16 @@ one_of name word =
     else (if bytes_eq name (codes "expire") then option_map (λ shard. commands.Expire shard) (number_to LAST_SHARD word)
     else None))))
 
+-- the commands of a name alone
+abbrev pub alone : List ℕ → Option Command
+alone name =
+    if bytes_eq name (codes "reload") then Some commands.Reload
+    else (if bytes_eq name (codes "stats") then Some commands.Stats
+    else None)
+
 -- a name alone, or a name and what stands behind the first space
 abbrev pub named : List ℕ → Option (List ℕ) → Option Command
-named name None = if bytes_eq name (codes "stats") then Some commands.Stats else None
+named name None = alone name
 named name (Some words) = if bytes_eq name (codes "feed") then fed words else one_of name words
 
 abbrev pub command_of : List ℕ → Option Command

@@ -37,6 +37,7 @@ is_in_order past (commands.End conn) = is_open past conn
 is_in_order past (commands.Act conn) = is_open past conn
 is_in_order past (commands.Tick by) = true
 is_in_order past (commands.Expire shard) = true
+is_in_order past commands.Reload = true
 is_in_order past commands.Stats = true
 
 abbrev pub in_order : List Command → Option Command → Option Command

@@ -1,6 +1,6 @@
 ghost use Rattle.std.specs.Prelude.{◌≡◌, ◌≤◌, IfOk, IfSome};
 ghost use Rattle.replay_text.specs.declared.command.TheConstants.{LAST_CONNECTION};
-ghost use Rattle.replay_text.specs.Commands.{IsBounded, bytes_of, command_of, connection_in, fed, one_of};
+ghost use Rattle.replay_text.specs.Commands.{IsBounded, alone, bytes_of, command_of, connection_in, fed, one_of};
 
 use crate::numbers::read_number;
 use hex::FromHexError;
@@ -34,6 +34,8 @@ pub enum Command {
     Tick(u64),
     /// A shard lets go of what is due longest.
     Expire(u32),
+    /// The configuration is loaded again.
+    Reload,
     /// How many transactions run, and how many are parked.
     Stats,
 }
@@ -45,10 +47,23 @@ pub(crate) fn command_of(alloc: Global, line: &[u8]) -> Result<Option<Command>, 
 {
     let (name, words) = cut(line, SPACE);
     match words {
-        None if name == b"stats".as_slice() => Ok(Some(Command::Stats)),
-        None => Ok(None),
+        None => Ok(lone_command(name)),
         Some(words) if name == b"feed".as_slice() => feed_of(alloc, words),
         Some(words) => Ok(number_command(name, words)),
+    }
+}
+
+// A command of its name alone.
+fn lone_command(name: &[u8]) -> Option<Command>
+    ensures command { result ≡ alone name.now }
+    ensures bounded { IfSome result IsBounded }
+{
+    if name == b"reload".as_slice() {
+        Some(Command::Reload)
+    } else if name == b"stats".as_slice() {
+        Some(Command::Stats)
+    } else {
+        None
     }
 }
 

@@ -94,7 +94,7 @@ fn is_in_order(opened: &Opened, command: &Command) -> bool
         Command::Feed(conn, _) => opened.has(*conn),
         Command::End(conn) => opened.has(*conn),
         Command::Act(conn) => opened.has(*conn),
-        Command::Tick(_) | Command::Expire(_) | Command::Stats => true,
+        Command::Tick(_) | Command::Expire(_) | Command::Reload | Command::Stats => true,
     }
 }
 

@@ -1,0 +1,4 @@
+pub mod Definition
+pub mod Help
+pub mod Numbers
+pub mod Words

@@ -1,0 +1,4 @@
+pub mod Draws
+pub mod Messages
+pub mod Turns
+pub mod Workload
