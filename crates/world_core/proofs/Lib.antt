@@ -10,3 +10,4 @@ pub mod Hearing
 pub mod Calling
 pub mod Counting
 pub mod Growing
+pub mod Rejudging

@@ -5,3 +5,4 @@ pub mod Steps
 pub mod Promised
 pub mod Standing
 pub mod Serving
+pub mod Slowly

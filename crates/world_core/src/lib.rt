@@ -10,8 +10,8 @@
 //! ```
 //!
 //! Which steps there are is `Step`; what each does and shows is `Steps` in `specs/Steps.antt`, whatever
-//! judges. When the connections stand for a state of that definition is `StandsFor` in
-//! `specs/Standing.antt`.
+//! judges: `Halves`, or the plain and slow `Slowly`. When the connections stand for a state of that
+//! definition is `StandsFor` in `specs/Standing.antt`.
 #![tactic(auto)]
 
 mod act;
@@ -25,6 +25,7 @@ mod opening;
 mod peers;
 mod rules;
 mod shards;
+mod slowly;
 mod step;
 mod tables;
 mod turns;
@@ -35,5 +36,6 @@ pub use halves::Halves;
 pub use judge::Judge;
 pub use laws::{outputs_are_of_needs, runs_keep_apart, tickets_stay_with_rows};
 pub use rules::Handle;
+pub use slowly::Slowly;
 pub use step::Step;
 pub use world::World;
