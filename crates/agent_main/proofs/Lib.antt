@@ -1,3 +1,6 @@
+mod Counting
+mod Generated
+mod Joined
 mod Refusals
 mod Results
 mod Runs

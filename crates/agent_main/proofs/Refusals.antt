@@ -8,7 +8,8 @@ use Rattle.agent_main.specs.declared.command_fault.CommandFault.TheVariants as f
 use Rattle.agent_main.specs.declared.script.TheConstants.{SCRIPT_LIMIT}
 use Rattle.agent_main.specs.CommandFaults.{Tells}
 use Rattle.agent_main.specs.Playing.{IsBadLine, Takes}
-use Rattle.agent_main.specs.Replay.{Command, for_shards, in_script, script_in}
+use Rattle.agent_main.specs.Turns.{Command}
+use Rattle.agent_main.specs.Replay.{for_shards, in_script, script_in}
 
 pub bad : (r : command.CommandFault) (line : ℕ) (z : Result (List Command) ℕ) → IsBadLine r line → z ≡ Err line → Tells {A = List Command} (Err r) (in_script z)
 bad (faults.Line text) line z is h = ap in_script h ∙ ap Err (sym is)

@@ -8,8 +8,9 @@ use Rattle.replay_text.specs.Script.{commands_from, in_order, is_in_order, lines
 use Rattle.std.specs.Prelude.{IfOk}
 use Rattle.agent_main.specs.declared.command_fault.CommandFault as command
 use Rattle.agent_main.specs.CommandFaults.{Tells}
-use Rattle.agent_main.specs.Playing.{IsPlayable}
-use Rattle.agent_main.specs.Replay.{Command, in_script, known, names_shard, unless_at}
+use Rattle.replay_text.specs.Playable.{IsPlayable, names_shard}
+use Rattle.agent_main.specs.Turns.{Command}
+use Rattle.agent_main.specs.Replay.{in_script, known, unless_at}
 
 abbrev InOrder : List Command → List Command → Type 0
 InOrder past [] = Unit {0}

@@ -68,3 +68,9 @@ pub exits_before : {A : Type 0} (content : Option A) (tells : A → Listing → 
     → IfSome content (λ told. (rules : Listing) → tells told rules → Exits 6 rules from from count count old old ⊎ other)
 exits_before None tells other from count old = tt
 exits_before (Some told) tells other from count old = λ rules is. inl (exits_at_once rules from count old)
+
+-- whatever words ask for it
+pub exits_unread : {A : Type 0} (content : Option A) (asks : List ℕ → Type 0) (tells : A → List ℕ → Listing → Type 0) (other : Type 0) (from : Option (List ℕ)) (count : ℕ) (old : Option (List ℕ))
+    → IfSome content (λ told. (name : List ℕ) (rules : Listing) → asks name → tells told name rules → Exits 6 rules from from count count old old ⊎ other)
+exits_unread None asks tells other from count old = tt
+exits_unread (Some told) asks tells other from count old = λ name rules asked is. inl (exits_at_once rules from count old)

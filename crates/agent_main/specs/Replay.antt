@@ -1,36 +1,20 @@
 -- What `replay` prints: what a run over the commands of a script shows.
-use Rattle.std.specs.Prelude.{◌≡◌, ◌⊎◌, ℕ, ◌+◌, Bool, true, not, List, ◌++◌, length, map, flat_map, position, nat_lt, codes, decimal, Option, Some, None, Result, Ok, Err, if◌then◌else◌}
-use Rattle.std.specs.Arc.{arc_value}
+use Rattle.std.specs.Prelude.{◌≡◌, ◌⊎◌, ℕ, ◌+◌, true, not, List, ◌++◌, length, position, nat_lt, codes, decimal, Option, Some, None, Result, Ok, Err, if◌then◌else◌}
+use Rattle.agent_conf.specs.LoadFaults.{is_told}
 use Rattle.agent_conf.specs.declared.conf.Conf.{Conf}
-use Rattle.agent_conf.specs.Loading.{Loaded, loaded}
-use Rattle.agent_conf.specs.Seen.{seen}
-use Rattle.conn_core.specs.declared.seen.Seen.{Seen}
-use Rattle.replay_text.specs.declared.command.Command as script_command
-use Rattle.replay_text.specs.declared.command.Command.TheVariants as commands
-use Rattle.replay_text.specs.Results.{seen_text}
+use Rattle.replay_text.specs.Playable.{names_shard}
 use Rattle.replay_text.specs.Script.{script}
 use Rattle.sec_parts.specs.Results.{◌>>=◌}
 use Rattle.sec_read.specs.FileWords.{Named}
 use Rattle.shelf.specs.declared.apps.Apps.{Apps}
-use Rattle.world_core.specs.declared.step.Step.{Step}
-use Rattle.world_core.specs.declared.step.Step.TheVariants as steps
-use Rattle.world_core.specs.Standing.{IsOpening, Shared}
-use Rattle.world_core.specs.Steps.{Runs}
-use Rattle.world_core.specs.World.{World}
-use Rattle.agent_main.specs.declared.exit_status.TheConstants.{DONE, REFUSED}
+use Rattle.world_core.specs.Standing.{Shared}
+use Rattle.agent_main.specs.declared.entry.Entry.{Entry}
 use Rattle.agent_main.specs.declared.script.TheConstants.{SCRIPT_LIMIT}
-use Rattle.agent_main.specs.FaultLines.{in_line}
-use Rattle.agent_main.specs.Report.{OutOfMemory, Reports}
-
-abbrev pub Command : Type 0
-Command = script_command.Command
+use Rattle.agent_main.specs.FaultLines.{fault_line}
+use Rattle.agent_main.specs.Report.{OutOfMemory, Reported}
+use Rattle.agent_main.specs.Turns.{Command, Load, Loads, Plays, entries_text, limits_of}
 
 -- ---- the script
-
--- the shard that it names is one of so many
-abbrev pub names_shard : ℕ → Command → Bool
-names_shard shards (commands.Expire shard) = nat_lt shard shards
-names_shard shards other = true
 
 -- the commands, unless the one at this place is bad; lines are counted from 1
 abbrev pub unless_at : Option ℕ → List Command → Result (List Command) ℕ
@@ -56,67 +40,29 @@ abbrev pub in_script : Result (List Command) ℕ → Result (List Command) (List
 in_script (Ok found) = Ok found
 in_script (Err line) = Err (script_line line)
 
--- ---- a command as a step, and what is printed of it
-
-abbrev pub step_of : Command → Step Shared
-step_of (commands.Open n) = steps.Open n
-step_of (commands.Feed n bytes) = steps.Feed n bytes
-step_of (commands.End n) = steps.End n
-step_of (commands.Act n) = steps.Act n
-step_of (commands.Tick units) = steps.Tick units
-step_of (commands.Expire shard) = steps.Expire shard
-step_of commands.Stats = steps.Stats
-
-abbrev pub conn_of : Command → Option ℕ
-conn_of (commands.Open n) = Some n
-conn_of (commands.Feed n bytes) = Some n
-conn_of (commands.End n) = Some n
-conn_of (commands.Act n) = Some n
-conn_of other = None
-
-abbrev pub shard_of : Command → ℕ
-shard_of (commands.Expire shard) = shard
-shard_of other = 0
-
--- commands, each with what its step showed
-abbrev pub Log : Type 0
-Log = List (Command × Seen)
-
-abbrev pub steps_of : Log → List (Step Shared × Seen)
-steps_of log = map (λ e. (step_of e.0, e.1)) log
-
-abbrev pub shown_text : Log → List ℕ
-shown_text log = flat_map (λ e. seen_text (conn_of e.0) (shard_of e.0) e.1) log
-
--- ---- the run
-
--- a run over these commands, from the opening under a configuration with these applications, and what it shows
-pub record Plays (conf : Conf) (apps : Apps Shared) (played : List Command) (text : List ℕ) : Type 0 where
-  pub first : World Shared
-  pub opens : IsOpening conf.size conf.shards conf.capacity apps first
-  pub log : Log
-  pub commands_are : map (λ e. e.0) log ≡ played
-  pub last : World Shared
-  pub runs : Runs arc_value first (steps_of log) last
-  pub text_is : text ≡ shown_text log
-
--- the same under what was loaded
-abbrev pub PlaysUnder : Loaded → List Command → List ℕ → Type 0
-PlaysUnder found played text =
-    (conf : Conf) × (apps : Apps Shared) × (seen arc_value (conf, apps) ≡ found) × Plays conf apps played text
-
 -- ---- what the command comes to
 
--- what is loaded under a name and the commands of a text, or the line of the first fault: that of the configuration
--- comes before that of the script
-unfoldable pub replay_in : Named → List ℕ → List ℕ → Result (Loaded × List Command) (List ℕ)
-replay_in told name text = do
-  found ← in_line name (loaded told name)
-  played ← in_script (script_in found.conf.shards text)
-  Ok (found, played)
+-- a text to print, or the line of a fault
+abbrev pub Told : Type 0
+Told = Result (List ℕ) (List ℕ)
 
--- the text of a run, or the line of the fault, was reported; nothing was where memory ran out
-abbrev pub Replayed : ℕ → Result (Loaded × List Command) (List ℕ) → Option (List ℕ) → Option (List ℕ) → Type 0
-Replayed result (Ok found) old new =
-    ((text : List ℕ) × PlaysUnder found.0 found.1 text × Reports result DONE text old new) ⊎ OutOfMemory result old new
-Replayed result (Err line) old new = Reports result REFUSED line old new ⊎ OutOfMemory result old new
+module _ (content : Option Named) (name : List ℕ) (before now : ℕ) where
+  -- the text of a run over the commands, or the line that is bad
+  abbrev pub IsRun : Conf → Apps Shared → Result (List Command) (List ℕ) → Told → Type 0
+  IsRun conf apps (Ok played) told = (entries : List Entry)
+      × Plays content name before now (limits_of conf) apps played entries × (told ≡ Ok (entries_text name entries))
+  IsRun conf apps (Err line) told = told ≡ Err line
+
+  -- after loading, over the script of this text
+  abbrev pub IsRunAfter : Load → List ℕ → Told → Type 0
+  IsRunAfter (Ok found) text told = IsRun found.0 found.1 (in_script (script_in found.0.shards text)) told
+  IsRunAfter (Err fault) text told = (is_told fault ≡ true) × (told ≡ Err (fault_line name fault))
+
+  -- a fault of the configuration comes before one of the script
+  abbrev pub IsReplay : List ℕ → Told → Type 0
+  IsReplay text told = (answer : Load) × Loads content name answer × IsRunAfter answer text told
+
+  -- it was reported; nothing was where memory ran out
+  abbrev pub Replayed : ℕ → List ℕ → Option (List ℕ) → Option (List ℕ) → Type 0
+  Replayed result text old new =
+      ((told : Told) × IsReplay text told × Reported result told old new) ⊎ OutOfMemory result old new

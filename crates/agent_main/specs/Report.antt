@@ -13,9 +13,18 @@ abbrev pub Reports : ℕ → ℕ → List ℕ → Option (List ℕ) → Option (
 Reports result status bytes old new =
     ((result ≡ status) × Adds old bytes new) ⊎ ((result ≡ WRITE_FAULT) × AddsPrefix old bytes new)
 
+-- a text, or the line of a fault, was reported
+abbrev pub Reported : ℕ → Result (List ℕ) (List ℕ) → Option (List ℕ) → Option (List ℕ) → Type 0
+Reported result (Ok text) old new = Reports result DONE text old new
+Reported result (Err line) old new = Reports result REFUSED line old new
+
 -- out of memory before anything was written
 abbrev pub OutOfMemory : ℕ → Option (List ℕ) → Option (List ℕ) → Type 0
 OutOfMemory result old new = (result ≡ OUT_OF_MEMORY) × (new ≡ old)
+
+-- the bytes were reported under that status, or there was no memory
+abbrev pub Says : ℕ → ℕ → List ℕ → Option (List ℕ) → Option (List ℕ) → Type 0
+Says result status bytes old new = Reports result status bytes old new ⊎ OutOfMemory result old new
 
 -- a read failed before anything was written: the count of faults of what is read rose from `before` to `now`
 abbrev pub ReadFails : ℕ → ℕ → ℕ → Option (List ℕ) → Option (List ℕ) → Type 0

@@ -2,13 +2,16 @@
 //!
 //! `offline_main(alloc, words, &mut files, &mut input, &mut output)` does what the words ask for, and answers the
 //! exit status. What `once` writes for a connection stands in `specs/Run.antt` and `specs/Judge.antt`, what
-//! `check` prints in `specs/Check.antt`, what `replay` prints in `specs/Replay.antt`.
+//! `check` prints in `specs/Check.antt`, what `replay` prints in `specs/Replay.antt`,
+//! what `generate` prints in `specs/Generate.antt`.
 #![tactic(auto)]
 
 mod check;
 mod command_fault;
+mod entry;
 mod exit_status;
 mod fault_lines;
+mod generate;
 mod judge;
 mod listings;
 mod offline;
@@ -17,6 +20,7 @@ mod playing;
 mod replay;
 mod report;
 mod script;
+mod summary;
 mod verdicts;
 mod words;
 

@@ -1,30 +1,36 @@
-ghost use Rattle.std.specs.Prelude.{◌≡◌, ◌⊎◌, Err, IfSome, List, Ok, false, true, ℕ};
+ghost use Rattle.std.specs.Prelude.{◌≡◌, ◌⊎◌, Bool, Err, IfSome, List, Ok, false, true, ℕ};
 ghost use Rattle.waf_io.specs.Counts.{Rose};
 ghost use Rattle.agent_conf.specs.declared.load_fault.LoadFault.{LoadFault};
 ghost use Rattle.agent_conf.specs.Loading.{loaded};
 ghost use Rattle.agent_main.specs.Check.{checked};
+ghost use Rattle.agent_main.specs.Generate.{Generated};
 ghost use Rattle.agent_main.specs.Listings.{listing_under};
-ghost use Rattle.agent_main.specs.Replay.{Replayed, replay_in};
-ghost use Rattle.agent_main.specs.Report.{Answers, FilesFailFirst, Prints, ReadFails, Reports};
+ghost use Rattle.agent_main.specs.Replay.{Replayed};
+ghost use Rattle.agent_main.specs.Report.{Answers, FilesFailFirst, Prints, ReadFails, Says};
 ghost use Rattle.sec_ast.specs.declared.listing.Listing.{Listing};
 ghost use Rattle.agent_main.specs.Run.{Exits};
-ghost use Rattle.agent_main.specs.declared.exit_status.TheConstants.{OTHER_WORDS, READ_FAULT, REFUSED, UNFINISHED, WRITE_FAULT};
-ghost use Rattle.agent_main.specs.Words.{command_of, refuses_input, serves_connection, takes_input, usage_line};
+ghost use Rattle.agent_main.specs.declared.exit_status.TheConstants.{DONE, OTHER_WORDS, READ_FAULT, REFUSED, UNFINISHED, WRITE_FAULT};
+ghost use Rattle.command_line.specs.Words.{command_of};
+ghost use Rattle.agent_main.specs.declared.words.TheConstants.{HELP, USAGE, VERSION};
+ghost use Rattle.agent_main.specs.Words.{refuses_input, serves_connection, takes_input};
 
 use crate::check::check;
-use crate::exit_status::OTHER_WORDS;
+use crate::exit_status::{DONE, OTHER_WORDS, OUT_OF_MEMORY};
+use crate::generate::generate;
 use crate::once::once;
 use crate::replay::replay;
 use crate::report::report;
-use crate::words::{Command, command_of};
+use crate::words::{HELP, USAGE, VERSION};
+use command_line::{Command, read_words};
 use std::alloc::Global;
 use waf_io::{Files, Sink, Source};
-use waf_plain::{Bytes, Seq};
+use waf_plain::{Bytes, NoMemory, Seq};
 
 /// Does what the words ask for, and answers the exit status. `check CONF` prints, for each application
 /// of a configuration, its name and its listing in canonical text; `once RULES` serves the one
 /// connection from input to output; `replay CONF` runs the script of the input over several
-/// connections, and prints what each step shows.
+/// connections, and prints what each step shows, also where the slow functions judge (`--plain`);
+/// `generate SEED COUNT` runs a script that it makes, and prints what became of its requests.
 ///
 /// | Status | Comes where |
 /// |---|---|
@@ -42,10 +48,15 @@ pub fn offline_main<F: Files, S: Source, K: Sink>(
     input: &mut S,
     output: &mut K,
 ) -> u8
-    // Other words
+    // Words that no command takes, or that ask for a text
     ensures usage { command_of words ≡ Command.Other
-        → Reports result OTHER_WORDS usage_line (K.held output.old) (K.held output.new) }
+        → Says result OTHER_WORDS USAGE.now (K.held output.old) (K.held output.new) }
     ensures taken { result ≡ OTHER_WORDS → command_of words ≡ Command.Other }
+
+    ensures help { command_of words ≡ Command.Help
+        → Says result DONE HELP.now (K.held output.old) (K.held output.new) }
+    ensures version { command_of words ≡ Command.Version
+        → Says result DONE VERSION.now (K.held output.old) (K.held output.new) }
 
     // check, where the files are told: the listings of all applications, or the line of the first fault
     ensures checked { IfSome (F.content files.old) (λ told. (name : List ℕ) → command_of words ≡ Command.Check name
@@ -67,17 +78,23 @@ pub fn offline_main<F: Files, S: Source, K: Sink>(
         ⊎ FilesFailFirst result (F.faults files.old) (F.faults files.new)
         (S.left input.old) (S.left input.new) (K.held output.old) (K.held output.new)) }
 
-    // replay, where files and input are told: what a run over the script shows, or the line of the first fault
-    ensures replayed { IfSome (F.content files.old) (λ told. IfSome (S.left input.old) (λ text.
-        (name : List ℕ) → command_of words ≡ Command.Replay name
-        → Replayed result (replay_in told name text) (K.held output.old) (K.held output.new)
+    // replay, where the input is told: what a run over the script shows, or the line of the first fault; what loading
+    // answers is known where the files are told
+    ensures replayed { IfSome (S.left input.old) (λ text.
+        (plain : Bool) (name : List ℕ) → command_of words ≡ Command.Replay plain name
+        → Replayed (F.content files.old) name (F.faults files.old) (F.faults files.new) result text
+        (K.held output.old) (K.held output.new)
         ⊎ (ReadFails result (F.faults files.old) (F.faults files.new) (K.held output.old) (K.held output.new)
-        ⊎ ReadFails result (S.faults input.old) (S.faults input.new) (K.held output.old) (K.held output.new)))) }
+        ⊎ ReadFails result (S.faults input.old) (S.faults input.new) (K.held output.old) (K.held output.new))) }
 
     // replay, where the files are told and the configuration is refused
-    ensures unloaded { IfSome (F.content files.old) (λ told. (name : List ℕ) (fault : LoadFault) →
-        command_of words ≡ Command.Replay name → loaded told name ≡ Err fault
+    ensures unloaded { IfSome (F.content files.old) (λ told. (plain : Bool) (name : List ℕ) (fault : LoadFault) →
+        command_of words ≡ Command.Replay plain name → loaded told name ≡ Err fault
         → S.left input.new ≡ S.left input.old) }
+
+    // generate: the counts of what a run over the script of a seed shows
+    ensures generated { (seed count : ℕ) → command_of words ≡ Command.Generate seed count
+        → Generated result seed count (K.held output.old) (K.held output.new) }
 
     // What takes nothing of the input
     ensures untouched { takes_input (command_of words) ≡ false → S.left input.new ≡ S.left input.old }
@@ -90,14 +107,16 @@ pub fn offline_main<F: Files, S: Source, K: Sink>(
         → Rose (F.faults files.old) (F.faults files.new) ⊎ Rose (S.faults input.old) (S.faults input.new) }
     ensures write_fault { result ≡ WRITE_FAULT → Rose (K.faults output.old) (K.faults output.new) }
 {
-    match command_of(words.as_slice()) {
-        Command::Check(name) => check(alloc, name, files, output),
-        Command::Once(name) => once(alloc, name, files, input, output),
-        Command::Replay(name) => replay(alloc, name, files, input, output),
-        Command::Other => report(
-            output,
-            b"usage: yefontsila check CONF | once RULES | replay [--plain] CONF\n",
-            OTHER_WORDS,
-        ),
+    match read_words(alloc, words.as_slice()) {
+        Ok(Command::Check(name)) => check(alloc, name.as_slice(), files, output),
+        Ok(Command::Once(name)) => once(alloc, name.as_slice(), files, input, output),
+        Ok(Command::Replay { plain, conf }) => {
+            replay(alloc, plain, conf.as_slice(), files, input, output)
+        }
+        Ok(Command::Generate { seed, count }) => generate(alloc, seed, count, output),
+        Ok(Command::Help) => report(output, HELP, DONE),
+        Ok(Command::Version) => report(output, VERSION, DONE),
+        Ok(Command::Other) => report(output, USAGE, OTHER_WORDS),
+        Err(NoMemory) => OUT_OF_MEMORY,
     }
 }

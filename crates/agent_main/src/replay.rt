@@ -1,43 +1,52 @@
-ghost use Rattle.std.specs.Prelude.{◌≡◌, ◌≢◌, ◌⊎◌, Err, IfSome};
+ghost use Rattle.std.specs.Prelude.{◌≡◌, ◌≢◌, ◌⊎◌, ◌<◌, [], Err, IfOk, IfSome};
+ghost use Rattle.replay_text.specs.Playable.{IsPlayable};
 ghost use Rattle.waf_io.specs.Counts.{Rose};
 ghost use Rattle.agent_conf.specs.declared.load_fault.LoadFault.{LoadFault};
 ghost use Rattle.agent_conf.specs.Loading.{loaded};
 ghost use Rattle.agent_main.specs.declared.exit_status.TheConstants.{OTHER_WORDS, READ_FAULT, UNFINISHED, WRITE_FAULT};
 ghost use Rattle.agent_main.specs.declared.command_fault.CommandFault.TheVariants as faults;
 ghost use Rattle.agent_main.specs.Playing.{TellsText};
-ghost use Rattle.agent_main.specs.Replay.{Replayed, replay_in};
+ghost use Rattle.agent_main.specs.Replay.{Replayed};
 ghost use Rattle.agent_main.specs.Report.{ReadFails};
+ghost use Rattle.agent_main.specs.Turns.{Plays, limits_of};
 
 use crate::command_fault::{CommandFault, command_fault};
+use crate::entry::{Entry, entries_text};
 use crate::exit_status::{DONE, OUT_OF_MEMORY, READ_FAULT, REFUSED};
-use crate::playing::played;
+use crate::playing::{Limits, played};
 use crate::report::report;
 use crate::script::commands_of;
-use agent_conf::load;
+use agent_conf::{Conf, load};
+use replay_text::Command;
+use shelf::Apps;
 use std::alloc::Global;
 use waf_io::{Files, Sink, Source};
-use waf_plain::Bytes;
+use waf_plain::{Bytes, NoMemory, Seq};
+use world_core::{Halves, Handle, Slowly};
 
-// Prints what a run over the script of the input shows, under the configuration of that name.
+// Prints what a run over the script of the input shows, under the configuration of that name, whether the
+// slow functions judge it or not.
 pub fn replay<F: Files, S: Source, K: Sink>(
     alloc: Global,
+    plain: bool,
     name: &[u8],
     files: &mut F,
     input: &mut S,
     output: &mut K,
 ) -> u8
     ensures other { (result ≢ UNFINISHED) × (result ≢ OTHER_WORDS) }
-    ensures replayed { IfSome (F.content files.old) (λ told. IfSome (S.left input.old) (λ text.
-        Replayed result (replay_in told name.now text) (K.held output.old) (K.held output.new)
+    ensures replayed { IfSome (S.left input.old) (λ text.
+        Replayed (F.content files.old) name.now (F.faults files.old) (F.faults files.new) result text
+        (K.held output.old) (K.held output.new)
         ⊎ (ReadFails result (F.faults files.old) (F.faults files.new) (K.held output.old) (K.held output.new)
-        ⊎ ReadFails result (S.faults input.old) (S.faults input.new) (K.held output.old) (K.held output.new)))) }
+        ⊎ ReadFails result (S.faults input.old) (S.faults input.new) (K.held output.old) (K.held output.new))) }
     ensures unloaded { IfSome (F.content files.old) (λ told. (fault : LoadFault) → loaded told name.now ≡ Err fault
         → S.left input.new ≡ S.left input.old) }
     ensures read_fault { result ≡ READ_FAULT
         → Rose (F.faults files.old) (F.faults files.new) ⊎ Rose (S.faults input.old) (S.faults input.new) }
     ensures write_fault { result ≡ WRITE_FAULT → Rose (K.faults output.old) (K.faults output.new) }
 {
-    match results(alloc, name, files, input) {
+    match results(alloc, plain, name, files, input) {
         Ok(text) => report(output, text.as_slice(), DONE),
         Err(CommandFault::Line(line)) => report(output, line.as_slice(), REFUSED),
         Err(CommandFault::ReadFault) => READ_FAULT,
@@ -46,15 +55,15 @@ pub fn replay<F: Files, S: Source, K: Sink>(
 }
 
 // The text that is printed.
-#[tactic(auto, unfolding(crate::specs::Replay::replay_in))]
 fn results<F: Files, S: Source>(
     alloc: Global,
+    plain: bool,
     name: &[u8],
     files: &mut F,
     input: &mut S,
 ) -> Result<Bytes, CommandFault>
-    ensures told { IfSome (F.content files.old) (λ told. IfSome (S.left input.old) (λ text.
-        TellsText result (replay_in told name.now text))) }
+    ensures told { IfSome (S.left input.old) (λ text.
+        TellsText (F.content files.old) name.now (F.faults files.old) (F.faults files.new) text result) }
     ensures unloaded { IfSome (F.content files.old) (λ told. (fault : LoadFault) → loaded told name.now ≡ Err fault
         → S.left input.new ≡ S.left input.old) }
     ensures cause { result ≡ Err faults.ReadFault
@@ -63,8 +72,43 @@ fn results<F: Files, S: Source>(
     match load(alloc, name, files) {
         Ok((conf, apps)) => {
             let commands = commands_of(alloc, conf.shards, input)?;
-            Ok(played(alloc, &conf, apps, commands.as_slice())?)
+            let limits = limits_of(&conf);
+            let commands = commands.as_slice();
+            let entries = shown(alloc, plain, name, files, limits, apps, commands)?;
+            Ok(entries_text(alloc, name, entries.as_slice())?)
         }
         Err(fault) => Err(command_fault(alloc, name, fault)),
+    }
+}
+
+// What a run over these commands shows, judged by the slow functions where it is `plain`.
+fn shown<F: Files>(
+    alloc: Global,
+    plain: bool,
+    name: &[u8],
+    files: &mut F,
+    limits: Limits,
+    apps: Apps<Handle>,
+    commands: &[Command],
+) -> Result<Seq<Entry>, NoMemory>
+    requires shards { 0 < limits.shards }
+    requires playable { IsPlayable limits.shards [] commands.now }
+    ensures { IfOk result
+        (Plays (F.content files.old) name.now (F.faults files.old) (F.faults files.new) limits apps commands.now) }
+{
+    if plain {
+        played(alloc, Slowly {}, name, files, limits, apps, commands)
+    } else {
+        played(alloc, Halves {}, name, files, limits, apps, commands)
+    }
+}
+
+fn limits_of(conf: &Conf) -> Limits
+    ensures { result ≡ limits_of conf.now }
+{
+    Limits {
+        size: conf.size,
+        shards: conf.shards,
+        capacity: conf.capacity,
     }
 }

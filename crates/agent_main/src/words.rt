@@ -1,49 +1,38 @@
-ghost use Rattle.std.specs.Str.{bytes_eq};
-ghost use Rattle.std.specs.Prelude.{◌≡◌};
-ghost use Rattle.agent_main.specs.Words.{command_of, named, renamed};
+// What is printed for words that no command takes, or that ask for it.
 
-use waf_plain::Bytes;
+pub const USAGE: &[u8] =
+    b"usage: yefontsila check CONF | once RULES | replay [--plain] CONF | generate SEED COUNT\n";
 
-/// What the words of a command line ask for. The name of the file that a command works on is an `N`.
-#[derive(Drop)]
-pub enum Command<N> {
-    Check(N),
-    Once(N),
-    Replay(N),
-    /// No command takes the words.
-    Other,
-}
+pub const VERSION: &[u8] = b"yefontsila 0.1.0-dev\n";
 
-// The command that the words are.
-#[tactic(auto, unfolding(crate::specs::Words::command_of))]
-pub fn command_of(words: &[Bytes]) -> Command<&[u8]>
-    ensures { renamed (λ name. name.now) result ≡ command_of words.now }
-{
-    let [word, name] = words else {
-        return Command::Other;
-    };
-    if name.len() == 0 {
-        return Command::Other;
-    }
-    named(word.as_slice(), name.as_slice())
-}
+pub const HELP: &[u8] = b"\
+A firewall agent for HAProxy: judges HTTP requests and responses, which HAProxy sends over SPOP 2.0, by rules in SecLang.
 
-fn named<'a>(word: &[u8], name: &'a [u8]) -> Command<&'a [u8]>
-    ensures { renamed (λ name. name.now) result ≡ named word.now name.now }
-{
-    if is_same(word, b"check") {
-        Command::Check(name)
-    } else if is_same(word, b"once") {
-        Command::Once(name)
-    } else if is_same(word, b"replay") {
-        Command::Replay(name)
-    } else {
-        Command::Other
-    }
-}
+Usage: yefontsila COMMAND
 
-fn is_same(a: &[u8], b: &[u8]) -> bool
-    ensures { result ≡ bytes_eq a.now b.now }
-{
-    a == b
-}
+Commands:
+  check CONF             Reads a configuration and its rules, and prints what they mean, or the first fault
+  once RULES             Serves the one connection from standard input to standard output, by the rules of a file
+  replay [--plain] CONF  Runs the script on standard input over several connections, and prints what each step shows
+  generate SEED COUNT    Makes a script of COUNT requests and responses, runs it, and prints what became of them
+
+Arguments:
+  CONF     The configuration, a TOML file
+  RULES    A file of rules
+  SEED     A number from 0 to 18446744073709551615: the same number makes the same script
+  COUNT    A number from 1 to 5000
+  --plain  Judge by the slow functions that are nearest to the definitions; they print the same
+
+Options:
+  -h, --help     Print this text
+  -V, --version  Print the version
+
+Exit status:
+  0  The work was done
+  1  once: the connection did not end in order
+  2  The words are none of these, or a number is out of range; the usage line was printed
+  3  The configuration, a rule or the script is refused, or a file is missing; the line of the fault was printed
+  4  Reading a file or the input failed
+  5  Writing failed
+  6  Out of memory
+";

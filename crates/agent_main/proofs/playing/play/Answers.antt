@@ -1,7 +1,26 @@
-use Rattle.agent_main.proofs.Runs.{shown}
+use Rattle.std.proofs.Common.{refl, subst}
+use Rattle.agent_main.specs.declared.playing.Plan as planning
+use Rattle.agent_main.specs.Playing.{IsPlan}
+use Rattle.agent_main.specs.Turns.{kept, made}
 use Rattle.agent_main.proofs.playing.play.Goals as goal
 
-pub returns : goal.returns
-returns c =
-    shown c.write_seen.result c.args.world.now c.step.new.self c.args.command.now c.in_ok-seen.seen c.in_ok-step_of.field-0 c.conn_of.result c.shard_of.result
-    c.args.text.now c.write_seen.new.out c.in_ok-step_of.ensures c.conn_of.ensures c.shard_of.ensures c.in_ok-seen.ensures c.write_seen.ensures.ok
+pub step-requires : goal.step-requires
+step-requires g c =
+    let is = subst (λ (p : planning.Plan). IsPlan (g.F.Files.content c.args.files.now) c.args.name.now c.args.command.now p) c.in-Step.is c.in_ok-step.ensures.plan in
+    c.requires c.in-Step.step is
+
+pub returns-in_ok-step-in-Step-clause-turn : goal.returns-in_ok-step-in-Step-clause-turn
+returns-in_ok-step-in-Step-clause-turn g c = record {
+  turn = made c.in-Step.step c.in_ok-step-in-Step.field-0;
+  is_turn = subst (λ (p : planning.Plan). IsPlan (g.F.Files.content c.args.files.now) c.args.name.now c.args.command.now p) c.in-Step.is c.in_ok-step.ensures.plan;
+  turns = c.in_ok-step-in-Step.ensures;
+  shown_is = refl;
+}
+
+pub returns-in-Kept-clause-turn : goal.returns-in-Kept-clause-turn
+returns-in-Kept-clause-turn g c = record {
+  turn = kept c.in-Kept.fault;
+  is_turn = subst (λ (p : planning.Plan). IsPlan (g.F.Files.content c.args.files.now) c.args.name.now c.args.command.now p) c.in-Kept.is c.in_ok-step.ensures.plan;
+  turns = refl;
+  shown_is = refl;
+}

@@ -1,5 +1,6 @@
 use Rattle.std.proofs.Common.{◌≡◌, ◌+◌, not, position, Some, None, sym, ap, ◌∙◌}
-use Rattle.agent_main.specs.Replay.{in_script, known, names_shard, unless_at}
+use Rattle.replay_text.specs.Playable.{names_shard}
+use Rattle.agent_main.specs.Replay.{in_script, known, unless_at}
 use Rattle.agent_main.proofs.Refusals.{bad}
 use Rattle.agent_main.proofs.script.known.Goals as goal
 
