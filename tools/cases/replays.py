@@ -54,6 +54,7 @@ class Run:
 
     def __init__(self, what, rules=b"", keys=b"", responses=True, name=b""):
         self.what, self.script, self.results = what, [], []
+        self.calls, self.later = "-", None
         conf = keys + b'[[app]]\nname = "' + name + b'"\nrules = ["rules"]\n'
         conf += b"responses = true\n" if responses else b""
         self.files = [b"agent.toml", conf, b"rules", rules]
@@ -97,10 +98,25 @@ class Run:
         self.feed(conn, response(stream, name, 200, app))
         self.acts(conn, None, ack(stream, name, error(4)))
 
+    def exchange(self, readings, **later):
+        """These files, by the part of a name before its dot, stand in the place of the first after so many readings."""
+        names = self.files[::2]
+        self.later = [part for name in names
+                      for part in (name, later.get(name.split(b".")[0].decode(), self.files[self.files.index(name) + 1]))]
+        self.calls = "x%d" % readings
+
     def case(self, words=b"replay\nagent.toml"):
         script, results = ("".join(one + "\n" for one in lines).encode() for lines in (self.script, self.results))
-        told = line(words, b"\0".join(self.files), script, "-", 0, results)
+        files = b"\0".join(self.files) + (b"\1" + b"\0".join(self.later) if self.later else b"")
+        told = line(words, files, script, self.calls, 0, results)
         return b"# " + self.what.encode() + b"\n" + told.encode() + b"\n"
+
+    def cases(self):
+        """The run, and the same where the slow functions judge."""
+        plain = Run("the same, judged by the slow functions")
+        plain.files, plain.later, plain.calls = self.files, self.later, self.calls
+        plain.script, plain.results = self.script, self.results
+        return self.case() + plain.case(b"replay\n--plain\nagent.toml")
 
 
 def log(conn, rule, text, data=b""):
@@ -225,6 +241,76 @@ def early():
     return run
 
 
+FAILED = b'SecRule RESPONSE_STATUS "@streq 500" "id:7,phase:3,deny"\n'
+
+
+def reloaded():
+    run = Run("a reload between a request and its response: each is judged by the rules of its request's start")
+    run.exchange(2, rules=FAILED)
+    run.greet(0)
+    run.park(0, 1, b"a1")
+    run.step("reload", "published 2")
+    run.claim(0, 2, b"a1", 500)
+    run.park(0, 3, b"a3")
+    run.claim(0, 4, b"a3", 500, log=log(0, 7, b""), more=denied(403, 7))
+    return run
+
+
+def kept():
+    run = Run("a reload that is refused in the rules of its second application keeps the first one's rules too",
+              DENY_POST, responses=False)
+    run.files[1] = (b'default = "a"\n[[app]]\nname = "a"\nrules = ["rules"]\n'
+                    b'[[app]]\nname = "b"\nrules = ["b.conf"]\n')
+    run.files += [b"b.conf", b""]
+    refused = b"SecRuleEngine On\nSecRequestBodyAccess On\n\n" + b'SecRule ARGS "@detectSQLi" "id:1,phase:2,deny"\n'
+    run.exchange(3, rules=b"", b=refused)
+    run.greet(0)
+    run.step("reload", "kept b.conf:4: RefusedByName @detectSQLi")
+    run.feed(0, request(1, b"a1", method=b"POST"))
+    run.acts(0, None, log(0, 100, b""), ack(1, b"a1", *denied(403, 100)))
+    run.step("reload", "kept b.conf:4: RefusedByName @detectSQLi")
+    return run
+
+
+def not_read():
+    run = Run("a reload whose rules can't be read, one whose configuration can't, and one that succeeds", DENY_POST,
+              responses=False)
+    run.calls = "f3,f4"
+    run.greet(0)
+    run.step("reload", "kept rules: ReadFault")
+    run.step("reload", "kept agent.toml: ReadFault")
+    run.step("reload", "published 2")
+    run.feed(0, request(1, b"a1", method=b"POST"))
+    run.acts(0, None, log(0, 100, b""), ack(1, b"a1", *denied(403, 100)))
+    return run
+
+
+def gone():
+    run = Run("a reload whose configuration is gone")
+    run.later, run.calls = [b"other", b""], "x2"
+    run.step("reload", "kept agent.toml: NoFile")
+    run.step("stats", "stats running 0 parked 0")
+    return run
+
+
+def expired_later():
+    run = Run("a request that is parked through a reload expires by its own life and the rules of its start",
+              b'SecAction "id:5,phase:5,pass,log,msg:\'first\'"\n', keys=b"")
+    run.files[1] += b"life = 10\n"
+    run.exchange(2, rules=b'SecAction "id:6,phase:5,pass,log,msg:\'second\'"\n')
+    run.later[1] = run.files[1].replace(b"life = 10", b"life = 5")
+    run.greet(0)
+    run.park(0, 1, b"a1")
+    run.step("reload", "published 2")
+    run.park(0, 2, b"a2")
+    run.step("tick 5")
+    run.step("expire 0", "expired 0 2", log("-", 6, b"second"))
+    run.step("expire 0", "notdue 0")
+    run.step("tick 5")
+    run.step("expire 0", "expired 0 1", log("-", 5, b"first"))
+    return run
+
+
 def example():
     run = Run("the example of docs/REPLAY.md")
     files = []
@@ -264,7 +350,9 @@ def example():
 def main():
     runs = [fragmented(), half_a_chain(), skipped(), expired(True), expired(False), raced(1, 2), raced(2, 1), full(),
             unknown(), too_long(), detected(), early()]
-    cases = b"".join(run.case() for run in runs) + example().case(b"replay\nreplay.toml")
+    reloads = [reloaded(), kept(), not_read(), gone(), expired_later()]
+    cases = b"".join(run.case() for run in runs) + b"".join(run.cases() for run in [detected(), skipped(), *reloads])
+    cases += example().case(b"replay\nreplay.toml")
     path = os.path.join(DATA, "commands.txt")
     with open(path, "rb") as file:
         before = file.read().partition(MARK)[0].partition(b"# the example of docs/REPLAY.md\n")[0]

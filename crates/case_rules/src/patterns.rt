@@ -1,9 +1,10 @@
-// Patterns that select names, and rules with patterns that have no reading.
+// Patterns that select names, rules with patterns that have no reading, and patterns of PCRE in other words.
 
 use crate::rule_files::listing_of;
 use crate::rules::put_bad_pattern;
 use crate::transactions::request_of;
 use case_text::Answer;
+use pattern_text::{WordFault, word_pattern};
 use sec_ast::{Listing, Selector};
 use sec_compile::{CompileFault, Ruleset, compile};
 use sec_meaning::{PlainState, plain_judge, plain_phase};
@@ -14,7 +15,8 @@ use web_parts::Request;
 
 /// `selects PATTERN NAME`: whether the pattern selects the name. `rules TEXT NAME`: whether the rules of
 /// that file are built, or the place and identifier of the first with a bad pattern, by `compile`,
-/// `plain_judge` and `plain_phase`.
+/// `plain_judge` and `plain_phase`. `worded PATTERN -`: the pattern for the crate `regex`, or that it is
+/// unsupported.
 pub fn answer(alloc: Global, given: &[Bytes], out: &mut Answer) {
     let [call, text, name] = given else {
         return out.malformed();
@@ -22,6 +24,7 @@ pub fn answer(alloc: Global, given: &[Bytes], out: &mut Answer) {
     match call.as_slice() {
         b"selects" => selects(alloc, text.as_slice(), name.as_slice(), out),
         b"rules" => rules(alloc, text.as_slice(), name.as_slice(), out),
+        b"worded" => worded(alloc, text.as_slice(), out),
         _ => out.malformed(),
     }
 }
@@ -31,6 +34,14 @@ fn selects(alloc: Global, pattern: &[u8], name: &[u8], out: &mut Answer) {
         Ok(pattern) => put_selected(pattern.selects(name), out),
         Err(BuildFault::BadPattern) => out.plain(b"BadPattern"),
         Err(BuildFault::NoMemory) => out.no_memory(),
+    }
+}
+
+fn worded(alloc: Global, pattern: &[u8], out: &mut Answer) {
+    match word_pattern(alloc, pattern) {
+        Ok(text) => out.quoted(text.as_slice()),
+        Err(WordFault::Unsupported) => out.plain(b"Unsupported"),
+        Err(WordFault::NoMemory) => out.no_memory(),
     }
 }
 

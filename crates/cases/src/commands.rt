@@ -1,20 +1,22 @@
-use crate::memory::{Pieces, mem_files, numbers, output};
+use crate::files::Exchanged;
+use crate::memory::{Pieces, numbers, output};
 use agent_main::offline_main;
 use case_text::{Answer, items};
 use std::alloc::Global;
-use waf_io::{MemFiles, MemSink};
+use waf_io::MemSink;
 use waf_plain::{Bytes, NoMemory, Seq};
 
 /// `WORDS FILES INPUT FAILING`, then the exit status and the output. Words have a line end between them,
 /// names and contents of files a byte 0. The calls that fail are numbers behind `f` for a file that is
 /// read, `r` for a read of the input, and `w` for a write; `-` stands for none. The input comes whole, or
-/// in pieces of the size that stands behind `s`.
+/// in pieces of the size that stands behind `s`. Behind a byte 1 stand other files, which are there after
+/// as many readings as stand behind `x`.
 pub fn answer(alloc: Global, given: &[Bytes], out: &mut Answer) {
     let [words, files, input, failing] = given else {
         return out.malformed();
     };
     let calls = failing.as_slice();
-    match files_of(alloc, files.as_slice(), calls) {
+    match Exchanged::new(alloc, files.as_slice(), calls) {
         Ok(mut files) => read(
             alloc,
             words.as_slice(),
@@ -30,7 +32,7 @@ pub fn answer(alloc: Global, given: &[Bytes], out: &mut Answer) {
 fn read(
     alloc: Global,
     words: &[u8],
-    files: &mut MemFiles,
+    files: &mut Exchanged,
     input: &[u8],
     calls: &[u8],
     out: &mut Answer,
@@ -44,7 +46,7 @@ fn read(
 fn begin(
     alloc: Global,
     words: &[u8],
-    files: &mut MemFiles,
+    files: &mut Exchanged,
     input: &mut Pieces,
     calls: &[u8],
     out: &mut Answer,
@@ -53,11 +55,6 @@ fn begin(
         Ok(words) => command(alloc, words, files, input, calls, out),
         Err(NoMemory) => out.no_memory(),
     }
-}
-
-fn files_of(alloc: Global, files: &[u8], calls: &[u8]) -> Result<MemFiles, NoMemory> {
-    let failing = numbers(alloc, calls, b'f')?;
-    mem_files(alloc, files, failing)
 }
 
 fn input_of(alloc: Global, input: &[u8], calls: &[u8]) -> Result<Pieces, NoMemory> {
@@ -76,7 +73,7 @@ fn output_of(alloc: Global, calls: &[u8]) -> Result<MemSink, NoMemory> {
 fn command(
     alloc: Global,
     words: Seq<Bytes>,
-    files: &mut MemFiles,
+    files: &mut Exchanged,
     input: &mut Pieces,
     calls: &[u8],
     out: &mut Answer,

@@ -6,6 +6,7 @@
 
 mod commands;
 mod connections;
+mod files;
 mod kind;
 mod memory;
 mod run;

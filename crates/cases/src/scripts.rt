@@ -42,6 +42,7 @@ fn put_command(command: &Command, out: &mut Answer) {
         Command::Act(conn) => out.named_number(b"act", u64::from(*conn)),
         Command::Tick(units) => out.named_number(b"tick", *units),
         Command::Expire(shard) => out.named_number(b"expire", u64::from(*shard)),
+        Command::Reload => out.plain(b"reload"),
         Command::Stats => out.plain(b"stats"),
     }
 }
