@@ -3,3 +3,4 @@ pub mod Histories
 pub mod Turns
 pub mod Splitting
 pub mod Joining
+pub mod Opened

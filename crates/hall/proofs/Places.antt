@@ -37,3 +37,8 @@ at_front (y ∷ xs) ys (suc j) x e = at_front xs ys j x e
 pub at_last : {A : Type 0} (xs : List A) (a : A) → slice_get (xs ++ a ∷ []) (length xs) ≡ Some a
 at_last [] a = refl
 at_last (y ∷ ys) a = at_last ys a
+
+pub item_at : {A : Type 0} (xs : List A) (i : ℕ) → i < length xs → (x : A) × (slice_get xs i ≡ Some x)
+item_at [] i lt = absurd (omega arith)
+item_at (x ∷ xs) zero lt = (x, refl)
+item_at (x ∷ xs) (suc i) lt = item_at xs i (omega arith)

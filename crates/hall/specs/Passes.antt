@@ -53,6 +53,11 @@ module _ {P : Type 0} where
     pub each : (s : ℕ) (l : Lock P) (q : Seat P) → slice_get (locks_of h) s ≡ Some l
         → slice_get (passes_of p) s ≡ Some q → IsShardPass s l q
 
+  -- each pass of the table has a pass of this lock for this shard
+  abbrev pub PassesOf : SharedHall P → ℕ → Lock P → Type 0
+  PassesOf h shard l = (p : HallPass P) (q : Seat P) → IsPassOfHall h p → slice_get (passes_of p) shard ≡ Some q
+      → IsShardPass shard l q
+
   -- it has seen nothing and made no call, and has all shares, and each shard has room for so many rows
   abbrev pub IsFirst : ℕ → SharedHall P → HallPass P → Type 0
   IsFirst capacity h p = (s : ℕ) (l : Lock P) (q : Seat P) → slice_get (locks_of h) s ≡ Some l

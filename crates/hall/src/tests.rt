@@ -70,7 +70,7 @@ fn enter_side_by_side<R: Threads + Wait + Sync>(
 ) -> Result<((bool, u64), (bool, u64)), NoMemory> {
     let left_key = key(alloc)?;
     let right_key = key(alloc)?;
-    let (hall, mut first) = SharedHall::new(alloc, 1, 10)?;
+    let (hall, mut first) = SharedHall::new(alloc, 3, 10)?;
     let second = hall.split(alloc, &mut first)?;
     let shared = &hall;
     let ((mut pass, left, left_number), (other, right, right_number)) = join(
@@ -96,7 +96,7 @@ fn park_and_resume<R: Threads + Wait + Sync>(
     let left_key = key(alloc)?;
     let first_key = key(alloc)?;
     let second_key = key(alloc)?;
-    let (hall, mut first) = SharedHall::new(alloc, 1, 10)?;
+    let (hall, mut first) = SharedHall::new(alloc, 3, 10)?;
     let second = hall.split(alloc, &mut first)?;
     let shared = &hall;
     let (parked, mut pass) = join(

@@ -57,7 +57,7 @@ module _ {O C R : Type 0} (may : O → C → Type 0) (allows : O → C → R →
         map_changed (own_in log') s.views id w ∙ (λ k. set (map_same (own_in log') (own_in r.log) s.views (λ j v p. selected_front v.own r.log (e ∷ []) (short j v p)) k) id (picked k)) in
         record {
           log = log';
-          two = length-set s.words 1 y ∙ two;
+          two = (let q = length-set s.words 1 y in omega arith);
           drawn = get_or-set_other s.words 1 0 y 0 (λ z. omega arith) ∙ (was_drawn ∙ ap (λ (z : ℕ). z % 18446744073709551616) (let q : n + a ≡ length log' + a' = omega arith in q));
           serving = get_or-set_same s.words 1 y 0 (omega arith) ∙ (let q : y ≡ length log' % 18446744073709551616 = omega arith in q);
           legal = legal_last may allows after start r.log e r.legal may_so allows_so;

@@ -31,10 +31,10 @@ module _ {O C R : Type 0} (may : O → C → Type 0) (allows : O → C → R →
   abbrev Rule : State S V → Type 0
   Rule = InTurns may allows after kept start
 
-  pub open_keeps : (x : Held O C R) → x.object ≡ start → kept start ([] ∷ []) → Rule (opening (0 ∷ 0 ∷ []) (Some x ∷ []) (first_view start))
+  pub open_keeps : (x : Held O C R) → x.object ≡ start → kept start ([] ∷ []) → Rule (opening (0 ∷ 0 ∷ 0 ∷ 0 ∷ 0 ∷ []) (Some x ∷ []) (first_view start))
   open_keeps x is first = record {
     log = [];
-    two = refl;
+    two = omega arith;
     drawn = refl;
     serving = refl;
     legal = tt;

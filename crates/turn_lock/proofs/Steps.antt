@@ -1,11 +1,11 @@
 -- A pass draws a turn, and looks whether it has come: both keep the rule.
-use Rattle.std.proofs.Common.{◌≡◌, ◌≢◌, ℕ, ◌+◌, ◌%◌, ◌^◌, ◌<◌, List, [], ◌∷◌, map, length, set, slice_index, Option, Some, refl, sym, ap, ◌∙◌, subst, inl, inr, ⊎_elim, arith, length-set, get_or-set_other, get_or-set_same}
+use Rattle.std.proofs.Common.{◌≡◌, ◌≢◌, ℕ, ◌+◌, ◌%◌, ◌^◌, ◌<◌, ◌≤◌, List, [], ◌∷◌, map, length, set, slice_index, Option, Some, refl, sym, ap, ◌∙◌, subst, inl, inr, ⊎_elim, arith, length-set, get_or-set_other, get_or-set_same}
 use mathlib.Core.Logic.{dite}
 use mathlib.Core.Option as maybe
 use native.Mathlib.Decide.{ℕ_discrete}
 use lib.ListN.{get_elem?}
 use Rattle.atomic_table.specs.Table.{State, Me, step, keeps, takes, stepped, Allows}
-use Rattle.atomic_table.proofs.Lists.{at_map, one_turn}
+use Rattle.atomic_table.proofs.Lists.{at_map, one_turn, set_again}
 use Rattle.turn_lock.specs.declared.history.Entry.{Entry}
 use Rattle.turn_lock.specs.declared.view.Stage.{Stage}
 use Rattle.turn_lock.specs.declared.view.Stage.TheVariants.{Idle, Waiting, Serving}
@@ -34,6 +34,25 @@ module _ {O C R : Type 0} (may : O → C → Type 0) (allows : O → C → R →
   abbrev Rule : State S V → Type 0
   Rule = InTurns may allows after kept start
 
+  -- a step on a word of which the rule says nothing
+  pub still_keeps : (slots id : ℕ) (me : M) (i : ℕ) (f : ℕ → ℕ) → 2 ≤ i → Allows Rule slots id me i f (λ n m'. m' ≡ me)
+  still_keeps slots id me i f past s r long at small =
+      let x : ℕ = f (slice_index s.words i) in let q = length-set s.words i x in let two = r.two in
+      let words_only : Rule (record { words = set s.words i x; homes = s.homes; views = s.views }) = record {
+        log = r.log;
+        two = omega arith;
+        drawn = get_or-set_other s.words i 0 x 0 (λ e. omega arith) ∙ r.drawn;
+        serving = get_or-set_other s.words i 1 x 0 (λ e. omega arith) ∙ r.serving;
+        legal = r.legal;
+        each = r.each;
+        apart = r.apart;
+        shares = r.shares;
+        owned = r.owned;
+        content = r.content;
+        lists = r.lists;
+      } in
+      (me.0, keeps, tt, subst Rule (λ k. record { words = set s.words i x; homes = s.homes; views = sym (set_again s.views id me.0 at) k }) words_only, refl)
+
   pub draw_keeps : (slots id : ℕ) (me : M) → me.0.stage ≡ Idle → 0 < me.0.share → Allows Rule slots id me 0 (λ n. (n + 1) % 2 ^ 64) (Drawn (step slots 0 1 0 maybe.none) me)
   draw_keeps slots id me idle live s r long at small =
       let n : ℕ = length r.log in let a : ℕ = total waiting s.views in let t : ℕ = n + a in
@@ -45,7 +64,7 @@ module _ {O C R : Type 0} (may : O → C → Type 0) (allows : O → C → R →
         tt,
         record {
           log = r.log;
-          two = length-set s.words 0 x ∙ two;
+          two = (let q = length-set s.words 0 x in omega arith);
           drawn = get_or-set_same s.words 0 x 0 (omega arith) ∙ (let e : x ≡ (n + total waiting (set s.views id w)) % 18446744073709551616 = omega arith in e);
           serving = get_or-set_other s.words 0 1 x 0 (λ e. omega arith) ∙ r.serving;
           legal = r.legal;
@@ -77,7 +96,7 @@ module _ {O C R : Type 0} (may : O → C → Type 0) (allows : O → C → R →
           ap (λ (h : List (maybe.Option S)). get_elem? h 0) home.1,
           record {
             log = r.log;
-            two = length-set s.words 1 x ∙ two;
+            two = (let q = length-set s.words 1 x in omega arith);
             drawn = get_or-set_other s.words 1 0 x 0 (λ e. omega arith) ∙ r.drawn ∙ ap (λ (z : ℕ). (n + z) % 18446744073709551616) (sym same_sum);
             serving = get_or-set_same s.words 1 x 0 (omega arith) ∙ r.serving;
             legal = r.legal;

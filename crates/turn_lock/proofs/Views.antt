@@ -14,6 +14,7 @@ use Rattle.turn_lock.specs.History.{total}
 use Rattle.turn_lock.specs.Marks.{mark_at}
 use Rattle.turn_lock.specs.View.{all_shares, HasTurn, waiting, share_in, owns_at}
 use Rattle.turn_lock.specs.Rule.{ViewFits, TurnsDiffer, IsOut, InTurns}
+use Rattle.turn_lock.specs.Lock.{Pass}
 use Rattle.turn_lock.proofs.Lists.{alone, same_place, total_le}
 
 -- the turn of a waiting pass
@@ -39,6 +40,9 @@ pub each_set : {A : Type 0} (P : A → Type 0) (views : List A) (id : ℕ) (w : 
 each_set P views id w new others j v at = ⊎_elim (λ h. subst P h.1 new) (λ h. others j v h.0 h.1) (at_set views id j w v at)
 
 module _ {O C R : Type 0} where
+  pub same_pass : (p q : Pass O C R) → p.table_id ≡ q.table_id → p.id ≡ q.id → p.me ≡ q.me → p ≡ q
+  same_pass p q a b m = λ k. record { marker = p.marker; table_id = a k; id = b k; me = m k }
+
   pub fits_wider : (start : O) (log : List (Entry C R)) (a b : ℕ) (v : View O C R) → a ≤ b → ViewFits start log a v → ViewFits start log b v
   fits_wider start log a b v le f = record {
     same = f.same;

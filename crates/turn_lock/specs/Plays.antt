@@ -17,6 +17,11 @@ module _ {O C R : Type 0} where
   Drawn st m n m' = (m'.1 ≡ m.1)
       × ((t : ℕ) × (n ≡ t % 18446744073709551616) × (m'.0 ≡ record m.0 { stage = Waiting t }))
 
+  -- the pass knows what it knew
+  abbrev pub Stayed : Step (Option (Held O C R)) → Me (Option (Held O C R)) (View O C R) → ℕ
+      → Me (Option (Held O C R)) (View O C R) → Type 0
+  Stayed st m n m' = m' ≡ m
+
 module _ {O C R : Type 0} (may : O → C → Type 0) (allows : O → C → R → Type 0) (after : O → C → R → O) where
   module _ (fits : List (Entry C R) → C → Type 0) where
     -- the pass has the slot and has seen the whole history, and each call that fits its list may be made

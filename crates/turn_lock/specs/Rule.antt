@@ -1,4 +1,5 @@
--- The rule of the lock. Word 0 counts the turns drawn, word 1 those that ended, both modulo 2^64.
+-- The rule of the lock. Word 0 counts the turns drawn, word 1 those that ended, both modulo 2^64. Of further words it
+-- says nothing.
 use Rattle.std.specs.Prelude.{◌≡◌, ◌≢◌, ℕ, ◌+◌, ◌%◌, ◌<◌, ◌≤◌, ◌⊎◌, List, [], ◌∷◌, map, length, slice_index, Option, Some}
 use mathlib.Core.Option as maybe
 use lib.ListN.{get_elem?}
@@ -53,7 +54,7 @@ module _ {O C R : Type 0} (may : O → C → Type 0) (allows : O → C → R →
   -- there is one legal history, of which each view has a front, and each of its calls is one view's own
   pub record InTurns (s : State (Option (Held O C R)) (View O C R)) : Type 0 where
     pub log : List (Entry C R)
-    pub two : length s.words ≡ 2
+    pub two : 2 ≤ length s.words
     pub drawn : slice_index s.words 0 ≡ (length log + total waiting s.views) % 18446744073709551616
     pub serving : slice_index s.words 1 ≡ length log % 18446744073709551616
     pub legal : Legal may allows after start log

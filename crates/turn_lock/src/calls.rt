@@ -25,6 +25,19 @@ impl<O: Object> TurnLock<O> {
         ensures lock { IsPassOf self.now pass.new }
         ensures call { Extends O.may O.allows O.after (opened_with self.now) pass.old call result pass.new }
     {
+        self.wait_outside(rt, pass);
+        let (reply, turn) = self.take_turn(rt, pass, call);
+        self.wake_sleepers(pass, turn);
+        reply
+    }
+
+    // Draws a turn, waits for it, and makes the call in it. The number of the turn comes back too.
+    fn take_turn<W: Wait>(&self, rt: &W, pass: &mut Pass<O>, call: O::Call) -> (O::Reply, u64)
+        requires lock { IsPassOf self.now pass.old }
+        requires fits { O.fits (own_of pass.old) call }
+        ensures lock { IsPassOf self.now pass.new }
+        ensures call { Extends O.may O.allows O.after (opened_with self.now) pass.old call result.0 pass.new }
+    {
         let turn = self.table.shared.fetch_add::<Draw>(pass, 0, 1);
         self.await_turn(rt, pass, turn);
         let Some(held) = self.table.shared.exchange(pass, 0, None) else {
@@ -46,8 +59,7 @@ impl<O: Object> TurnLock<O> {
             Some(_) => unreachable!(),
         }
         self.table.shared.fetch_add::<End>(pass, 1, 1);
-        self.wake_sleepers(turn);
-        reply
+        (reply, turn)
     }
 
     // Waits until the turn has come.
@@ -63,29 +75,13 @@ impl<O: Object> TurnLock<O> {
             if serving == turn {
                 return;
             }
-            looks = self.pause(rt, looks, serving);
+            if looks < LOOKS_BEFORE_SLEEP {
+                looks += 1;
+                thread::yield_now();
+            } else {
+                self.sleep_in_line(rt, pass, serving);
+            }
         }
         unreachable!()
-    }
-
-    // Gives the processor up after a look that found another's turn, and counts the looks. The sleep
-    // ends as soon as that turn does: it ends at once where the turn has ended meanwhile.
-    fn pause<W: Wait>(&self, rt: &W, looks: u32, serving: u64) -> u32 {
-        if looks < LOOKS_BEFORE_SLEEP {
-            thread::yield_now();
-            return looks + 1;
-        }
-        self.table
-            .shared
-            .park(rt, 1, (serving & 0xffff_ffff) as u32);
-        looks
-    }
-
-    // Wakes those that sleep, after the end of a turn. Whoever drew a later turn had done so before
-    // word 0 is read here, or looks at word 1 only after its change.
-    fn wake_sleepers(&self, turn: u64) {
-        if self.table.shared.peek(0) != turn.wrapping_add(1) {
-            self.table.shared.wake_all(1);
-        }
     }
 }

@@ -16,6 +16,7 @@ mod slot;
 #[cfg(test)]
 mod tests;
 mod view;
+mod waiting;
 
 pub use history::Entry;
 pub use lock::{Locked, Pass, TurnLock};

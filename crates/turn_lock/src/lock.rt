@@ -14,9 +14,9 @@ use std::snapshot::Snapshot;
 #[derive(Drop)]
 pub struct Locked<S, V, K, Q: TableRule<S, V, K>> {
     // Word 0 counts the turns that were drawn and word 1 those that ended, both modulo 2^64. The
-    // slot has the object.
+    // others serve those that wait. The slot has the object.
     pub(crate) table: Table<S, V, K, Q, Global>,
-    ghost sized: { (table.shared.table_id.words ≡ 2) × (table.shared.table_id.slots ≡ 1) },
+    ghost sized: { (table.shared.table_id.words ≡ 5) × (table.shared.table_id.slots ≡ 1) },
 }
 
 /// A lock round an object. Share it by reference, and hand each thread a pass of its own.

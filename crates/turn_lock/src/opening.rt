@@ -24,7 +24,7 @@ impl<O: Object> TurnLock<O> {
         let start = Snapshot::of(&object);
         let mut slots = Vec::with_capacity(alloc, 1)?;
         slots.push_reserved(Some(Held { object, last: None }));
-        match Table::new(alloc, &[0, 0], slots, &start) {
+        match Table::new(alloc, &[0, 0, 0, 0, 0], slots, &start) {
             Ok((table, pass)) => Ok((Locked { table }, pass)),
             Err(_) => Err(NoMemory),
         }

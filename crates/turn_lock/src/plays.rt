@@ -35,6 +35,15 @@ impl<O, C, R> Play<Option<Held<O, C, R>>, View<O, C, R>> for End {
     ghost then = { Ended };
 }
 
+/// Changes nothing of what is known.
+pub struct Still;
+
+impl<O, C, R> Play<Option<Held<O, C, R>>, View<O, C, R>> for Still {
+    ghost use Rattle.turn_lock.specs.Plays.{Stayed};
+
+    ghost then = { Stayed };
+}
+
 /// Gives a new pass one share.
 pub struct SplitShare;
 

@@ -10,7 +10,7 @@ pub new-requires : goal.new-requires
 new-requires g c =
     let held : Held g.row.O.Denot g.row.O-Call.Denot g.row.O-Reply.Denot = record { object = c.args.object; last = None } in
     let start = c.of-start.result.value in
-    subst (λ l. InTurns g.O.Object.may g.O.Object.allows g.O.Object.after g.O.Object.kept start (opening (0 ∷ 0 ∷ []) l (first_view start)))
+    subst (λ l. InTurns g.O.Object.may g.O.Object.allows g.O.Object.after g.O.Object.kept start (opening (0 ∷ 0 ∷ 0 ∷ 0 ∷ 0 ∷ []) l (first_view start)))
     (sym (c.push_reserved.ensures.items ∙ ap (λ l. l ++ Some held ∷ []) c.in_ok-slots.ensures.items))
     (open_keeps g.O.Object.may g.O.Object.allows g.O.Object.after g.O.Object.kept start held (sym c.of-start.ensures)
     (subst (λ s. g.O.Object.kept s ([] ∷ [])) (sym c.of-start.ensures) (g.met.O.Object.kept_first c.args.object c.requires)))

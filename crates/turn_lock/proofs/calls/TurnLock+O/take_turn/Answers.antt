@@ -4,7 +4,7 @@ use Rattle.turn_lock.specs.History.{entry}
 use Rattle.turn_lock.specs.View.{ended}
 use Rattle.turn_lock.proofs.Serving.{notes, served, ready_ends, extends}
 use Rattle.turn_lock.proofs.Steps.{draw_keeps}
-use Rattle.turn_lock.proofs.calls.TurnLock+O.act.Goals as goal
+use Rattle.turn_lock.proofs.calls.TurnLock+O.take_turn.Goals as goal
 
 pub fetch_add-turn-requires : goal.fetch_add-turn-requires
 fetch_add-turn-requires g c = (
