@@ -95,6 +95,14 @@ TEXTS = [
     "SecAction \"id:1,phase:2,setvar:tx.a=1,setvar:tx.a=+2,setvar:'tx.a=-it\\'s',setvar:!tx.a,ctl:ruleEngine=Off,ctl:requestBodyAccess=Off,ctl:responseBodyAccess=On,"
     "ctl:requestBodyProcessor=XML,ctl:ruleRemoveById=7,ctl:ruleRemoveById=7-10,ctl:'ruleRemoveByTag=it\\'s',chain\"\nSecAction \"severity:0\"",
     "SecAction id:1,chain\nSecAction \"\"", "SecAction id:1,chain\nSecAction ver:1", "SecAction id:1,chain\nSecRule ARGS a \"\"", "SecAction \"\"",
+    # how patterns are read
+    "SecRule ARGS a id:1\nSecPatternMode Bytes\nSecRule ARGS a id:2\nSecRule ARGS \"!@rx b\" id:3\nSecPatternMode unicode\nSecRule ARGS \"!@rx b\" id:4\nSecRule ARGS b id:5",
+    "SecPatternMode BYTES\nSecRule ARGS:/a/ \"\" id:1\nSecRule TX:/b/ \"@pm rx\" id:2\nSecRule ARGS \"@streq a\" id:3,chain\nSecRule ARGS @rx", "SecPatternMode", "SecPatternMode Bytes Unicode",
+    "SecPatternMode x", "SecPatternMode \"\"", "secpatternmode Unicode\nSecRule ARGS \"@RXBYTES ^a\\\"b \" id:1\nSecRule ARGS @rxBytes id:2\nSecRule ARGS \"!@rxBytes (\" id:3",
+    "SecAction id:5,chain\nSecPatternMode Bytes", "SecRule ARGS a id:1,chain\nSecRule ARGS \"@rxBytes b\"\nSecPatternMode Bytes\nSecRule ARGS \"@rx c\" id:2,chain\nSecRule ARGS d",
+    "SecPatternMode Bytes\nSecRule ARGS \"@rxBytes a\" id:1\nSecMarker M\nSecRule ARGS \"@foo\" id:2",
+    "@@ d/a\nSecPatternMode Bytes\nInclude b\nSecRule ARGS c id:3\n@@ d/b\nSecRule ARGS a id:1\nSecPatternMode Unicode\nSecRule ARGS b id:2",
+    "@@ d/a\nSecRule ARGS a id:1\nInclude b\nSecRule ARGS c id:3\n@@ d/b\nSecPatternMode Bytes\nSecRule ARGS b id:2",
     # files
     "@@ d/a\nInclude e/b\nInclude /c\nSecMarker A\n@@ d/e/b\nSecRule ARGS \"@pmFromFile ../p\" id:1\n@@ d/e/../p\n# phrases\r\n a b \r\n\nc\n@@ /c\n"
     "SecDefaultAction phase:2,deny\nSecRule ARGS \"@ipMatchF i\" id:2\n@@ /i\n10.0.0.0/8\n::1",
@@ -114,6 +122,7 @@ SEVERAL = [
     (b"a,b", "@@ a\nSecRuleEngine detectiononly\nSecAction id:1\nSecRequestBodyLimit 1\n@@ b\nSecRuleRemoveById 1\nSecRequestBodyLimit 1073741824\n"
      "SecRequestBodyLimitAction ProcessPartial\nSecMarker B"),
     (b"a,b,c", "@@ a\nSecRuleEngine detectiononly\nSecAction id:1\n@@ b\nSecRuleRemoveById 1\n@@ c\nSecAction id:1"),
+    (b"a,b,c", "@@ a\nSecRule ARGS a id:1\nSecPatternMode Bytes\n@@ b\nSecRule ARGS a id:2\nSecPatternMode Unicode\n@@ c\nSecRule ARGS a id:3"),
     (b"a,b", "@@ a\nSecAction id:1"), (b"a,b", "@@ b\nSecAction id:1"), (b"a,b", "@@ a\nSecAction id:1,chain\n@@ b\nSecAction log"), (b"a,a", "@@ a\nSecMarker A"),
     (b"a,a", "@@ a\nSecAction id:1"), (b"x/a,y/b", "@@ x/a\nInclude c\n@@ y/b\nInclude c\n@@ x/c\nSecMarker X\n@@ y/c\nSecMarker Y"), (b"a,b", "@@ a\nSecDefaultAction phase:2,deny\n@@ b\nSecAction id:1"),
     (b"none", "@@ a\nSecMarker A"), (b"/a,b", "@@ /a\nInclude c\n@@ /c\nSecMarker C\n@@ b\nInclude c\n@@ c\nSecMarker D"), (b"a,b", b"@@ a\nSecMarker A\n@@ b\n\xff"), (b"a,b", "@@ a\nSecFoo\n@@ b\nSecBar"),

@@ -140,7 +140,7 @@ OPERATORS = [
     b"@validateByteRange 0-9,32 ,255", b"@pmf a b.txt", b"@detectsqli", b"@foo! a", b"@", b"@noMatch a b", b"@pm a |4|",
     b"@pm a||", b"@pm |41 42|", b"@validateByteRange 1,9-1", b"@validateByteRange 256", b"@eq %{GEO:a}", b"abc", b" abc ",
     b"!abc", b"!!abc", b"! !abc", b"!", b"!@rx", b"@rx", b"@rx ", b"@rx a b ", b"@rx\ta", b"@RX %{TX.a}", b"a@rx b",
-    b"! @streq a", b"@streq", b"@streq  ", b"@streq %{TX.a}%{foo}", b"@streq %{GEO.a}", b"@within a b %{TX.0}",
+    b"@rxBytes", b"@rxBytes a b ", b"!@RXBYTES\t%{TX.a}", b"@rxByte a", b"@rxBytes_", b"! @streq a", b"@streq", b"@streq  ", b"@streq %{TX.a}%{foo}", b"@streq %{GEO.a}", b"@within a b %{TX.0}",
     b"@contains %{", b"@beginsWith %{REMOTE_ADDR}", b"@endsWith .php", b"@eq 1", b"@ge %{tx.a}", b"@gt -1", b"@le x", b"@lt",
     b"@pm", b"@pm a", b"@pm a b\tc", b"@pm |", b"@pm |a", b"@pm |4g|", b"@pm |4142|", b"@pm |41||42|", b"@pm a|41", b"@pm |41|b|42",
     b"@pm \"", b"@pm |20|", b"@pm |41|x|42|y", b"@pm |414|", b"@pm ||41||", b"@pmFromFile", b"@pmFromFile  a ", b"@pmfromfile /x",

@@ -44,6 +44,12 @@ def bad_rules():
     yield good + "SecRule \"ARGS:'/[/ '\" a id:6\n", 2, 6
     yield "SecMarker A\n" + good + "SecMarker B\nSecRule ARGS \"!@rx (\" \"id:7,phase:5\"\n", 4, 7
     yield "SecRuleEngine Off\n" + good + RULE % ("(", 2) + RULE % ("b", 3), 3, 2
+    # by bytes: a pattern without a wording, and one whose wording has no reading
+    for bad in ("a(?=b)", "a++", "[a", "(a", "*", "b{3,2}"):
+        yield good + "SecRule ARGS \"@rxBytes %s\" id:2\n" % bad + RULE % ("(", 3), 2, 2
+        yield "SecPatternMode Bytes\n" + good + RULE % (bad, 2) + RULE % ("b", 3), 3, 2
+    yield "SecPatternMode Bytes\n" + good + "SecRule ARGS:/a{/ a id:2\n", 3, 2
+    yield "SecPatternMode Bytes\n" + good + "SecPatternMode Unicode\n" + RULE % ("a{", 2), 4, 2
 
 
 def good_rules():
@@ -57,6 +63,8 @@ def good_rules():
     yield "SecRuleRemoveById 2\n" + RULE % ("a", 1) + RULE % ("(", 2)
     yield "SecRule ARGS:/^ab$/|!ARGS:/x/|&TX:/y/ \"@rx x(.)z\" id:1"
     yield "SecRule ARGS \"\" id:1"
+    yield "SecRule ARGS \"@rxBytes a{|}|[[b]|\\<\" id:1"
+    yield "SecPatternMode Bytes\n" + RULE % ("a{", 1) + RULE % ("\\h", 2) + "SecRule ARGS \"\" id:3"
     yield "SecRule ARGS @rx id:1"
 
 

@@ -15,7 +15,7 @@ SETTINGS = {
 FIRST_SETTINGS = ["On", "On", "131072", "Reject", "Off"]
 
 KNOWN = """SecRule SecAction SecMarker SecDefaultAction Include SecRuleRemoveById
-SecRuleRemoveByTag""".split() + list(SETTINGS)
+SecRuleRemoveByTag SecPatternMode""".split() + list(SETTINGS)
 
 PASSED = """SecArgumentSeparator SecArgumentsLimit SecAuditEngine SecAuditLog SecAuditLogDir SecAuditLogDirMode
 SecAuditLogFileMode SecAuditLogFormat SecAuditLogParts SecAuditLogRelevantStatus SecAuditLogStorageDir
@@ -42,6 +42,7 @@ class Reader:
         self.files, self.total = files, 0
         self.items, self.seen = [], set()
         self.settings = list(FIRST_SETTINGS)
+        self.by_bytes = False
         self.defaults = {phase: (["pass"], 0, True) for phase in range(1, 6)}
         self.ids, self.tags = [], []
         self.open = None
@@ -109,6 +110,11 @@ class Reader:
                 self.ids.append((a, b))
         elif name == "SecRuleRemoveByTag":
             self.tags.append(words[0])
+        elif name == "SecPatternMode":
+            mode = named(["Unicode", "Bytes"], words[0])
+            if mode is None:
+                raise Fault("BadWord", words[0])
+            self.by_bytes = mode == "Bytes"
         else:
             self.setting(name, words[0])
 
@@ -184,6 +190,8 @@ class Reader:
             for one in words:
                 if block(one) is None:
                     raise Fault("BadWord", one)
+        if kind == "rx" and self.by_bytes:
+            kind = "rxBytes"
         return negated, kind, parts, words, None
 
     def is_removed(self, item):

@@ -24,7 +24,7 @@ INVALID_HEADER_FOLDING FILE_LIMIT_EXCEEDED""".split():
 REFUSED_VARIABLES = """GEO ENV IP SESSION USER GLOBAL RESOURCE RULE DURATION FULL_REQUEST
 FULL_REQUEST_LENGTH""".split()
 
-OPERATORS = """rx pm streq contains beginsWith endsWith within eq ge gt le lt ipMatch validateByteRange
+OPERATORS = """rx rxBytes pm streq contains beginsWith endsWith within eq ge gt le lt ipMatch validateByteRange
 validateUrlEncoding validateUtf8Encoding unconditionalMatch noMatch""".split()
 
 FILE_OPERATORS = {"pmFromFile": "pm", "pmf": "pm", "ipMatchFromFile": "ipMatch", "ipMatchF": "ipMatch"}
@@ -273,7 +273,7 @@ def operator(word):
 
 
 def argument_of(kind, argument):
-    if kind == "rx":
+    if kind in ("rx", "rxBytes"):
         return [argument] if argument else [], []
     if kind == "pm":
         return [], [phrase(word) for word in argument.replace(b"\t", b" ").split(b" ") if word]

@@ -1,4 +1,4 @@
--- The text for the crate `regex` of a pattern as PCRE reads it: on bytes, `.` matching line ends too.
+-- The text for the crate `regex` of a pattern as PCRE reads it: on bytes, `.` matching line ends too, `^` and `$` at them.
 use Rattle.std.specs.Prelude.{ℕ, zero, suc, ◌-◌, List, [], ◌∷◌, ◌++◌, codes, Option, Some, None, option_and_then, if◌then◌else◌}
 use Rattle.std.specs.Option.{option_map}
 use Rattle.pattern_text.specs.Texts.{begins}
@@ -30,9 +30,9 @@ worded_from place (suc skip) (b ∷ bs) = worded_from place skip bs
 worded_from place zero (b ∷ bs) =
     option_and_then (λ word. after word.text (worded_from word.next (word.takes - 1) bs)) (token place (b ∷ bs))
 
--- read on bytes, with `.` matching line ends too
+-- read on bytes, with `.` matching line ends too, and `^` and `$` at inner line ends
 abbrev pub prefix : List ℕ
-prefix = codes "(?s-u)"
+prefix = codes "(?sm-u)"
 
 -- None: not supported
 unfoldable pub worded : List ℕ → Option (List ℕ)

@@ -1,6 +1,6 @@
 //! Patterns as PCRE reads them, worded for the crate `regex`, on bytes.
 //!
-//! `word_pattern(alloc, b"\\h{2")` answers `(?s-u)[\x09\x20]\x7B2`, which `regex::bytes` reads with
+//! `word_pattern(alloc, b"\\h{2")` answers `(?sm-u)[\x09\x20]\x7B2`, which `regex::bytes` reads with
 //! the meaning that PCRE gives to `\h{2`. The definition is `worded` in `specs/Wording.antt`.
 #![tactic(auto)]
 

@@ -28,13 +28,14 @@ impl From<NoMemory> for WordFault {
     }
 }
 
-/// The text for `regex::bytes` of a pattern as PCRE reads it. It begins with the flags that turn
-/// Unicode off and let `.` match line ends, and takes one pass.
+/// The text for `regex::bytes` of a pattern as PCRE reads it with `PCRE2_DOTALL` and
+/// `PCRE2_MULTILINE`. It begins with the flags that turn Unicode off, let `.` match line ends, and
+/// `^` and `$` before and after a line feed. It takes one pass.
 pub fn word_pattern(alloc: Global, pattern: &[u8]) -> Result<Bytes, WordFault>
     ensures worded { IfOk result (λ text. worded pattern.now ≡ Some text) }
     ensures unsupported { IfErr result (λ fault. fault ≡ WordFault.Unsupported → worded pattern.now ≡ None) }
 {
-    let mut out = Bytes::copy(alloc, b"(?s-u)")?;
+    let mut out = Bytes::copy(alloc, b"(?sm-u)")?;
     let mut place = Place::Outside;
     let mut rest = pattern;
     while !rest.is_empty() {

@@ -6,6 +6,7 @@ use Rattle.sec_ast.specs.declared.operator.OpKind.TheVariants as kinds
 
 abbrev pub operator_name : OpKind → List ℕ
 operator_name kinds.Rx = codes "rx"
+operator_name kinds.RxBytes = codes "rxBytes"
 operator_name kinds.Pm = codes "pm"
 operator_name kinds.Streq = codes "streq"
 operator_name kinds.Contains = codes "contains"
@@ -27,6 +28,7 @@ operator_name kinds.NoMatch = codes "noMatch"
 abbrev pub all_kinds : List OpKind
 all_kinds =
     kinds.Rx ∷
+    kinds.RxBytes ∷
     kinds.Pm ∷
     kinds.Streq ∷
     kinds.Contains ∷

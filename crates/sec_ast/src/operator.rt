@@ -10,7 +10,10 @@ use waf_plain::{Bytes, Seq};
 /// has them in its argument.
 #[derive(Clone, Copy, Debug, PartialEq, Eq)]
 pub enum OpKind {
+    /// A pattern, read under Unicode rules.
     Rx,
+    /// A pattern as PCRE reads it, on bytes.
+    RxBytes,
     Pm,
     Streq,
     Contains,
@@ -30,8 +33,9 @@ pub enum OpKind {
     NoMatch,
 }
 
-const OP_KINDS: [OpKind; 18] = [
+const OP_KINDS: [OpKind; 19] = [
     OpKind::Rx,
+    OpKind::RxBytes,
     OpKind::Pm,
     OpKind::Streq,
     OpKind::Contains,
@@ -58,6 +62,7 @@ impl OpKind {
     {
         match self {
             OpKind::Rx => b"rx",
+            OpKind::RxBytes => b"rxBytes",
             OpKind::Pm => b"pm",
             OpKind::Streq => b"streq",
             OpKind::Contains => b"contains",
@@ -96,8 +101,8 @@ pub fn operator_of_its_name()
     ensures { (operator : OpKind) → operator_named (operator_name operator) ≡ Some operator }
 {}
 
-/// An operator with its argument. `text` has the pattern of `Rx`, as one part of text or none, and
-/// the argument of a kind that takes a macro; `words` has the phrases, the addresses or the ranges.
+/// An operator with its argument. `text` has the pattern of `Rx` and `RxBytes`, as one part of text or
+/// none, and the argument of a kind that takes a macro; `words` has the phrases, the addresses or the ranges.
 /// The other field is empty.
 #[derive(Debug, PartialEq, Drop)]
 pub struct Op {

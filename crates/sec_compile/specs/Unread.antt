@@ -5,10 +5,8 @@ use Rattle.std.specs.Option.{option_or}
 use Rattle.sec_ast.specs.declared.link.Link.{Link}
 use Rattle.sec_ast.specs.declared.listing.Item.{Item}
 use Rattle.sec_ast.specs.declared.listing.Item.TheVariants as items
-use Rattle.sec_ast.specs.declared.operator.OpKind.{OpKind}
-use Rattle.sec_ast.specs.declared.operator.OpKind.TheVariants.{Rx}
 use Rattle.sec_ast.specs.declared.target.Target.{Target}
-use Rattle.sec_ops.specs.Hits.{source_of, source_reading}
+use Rattle.sec_ops.specs.Hits.{is_unread_op, source_of, source_reading}
 use Rattle.sec_ops.specs.Selectors.{pattern_of, selector_source}
 use Rattle.sec_compile.specs.declared.fault.CompileFault.{CompileFault}
 use Rattle.sec_compile.specs.declared.fault.CompileFault.TheVariants as faults
@@ -16,11 +14,6 @@ use Rattle.sec_compile.specs.declared.fault.CompileFault.TheVariants as faults
 -- whether the grammar of patterns has no reading of a text
 abbrev pub is_unread : List ℕ → Bool
 is_unread source = is_none (source_reading source)
-
--- of an operator, by its kind and its pattern: `@rx` alone has one
-abbrev pub is_unread_op : OpKind → List ℕ → Bool
-is_unread_op Rx source = is_unread source
-is_unread_op other source = false
 
 -- of the pattern by which a target selects, if it does
 abbrev pub is_unread_selector : Option (List ℕ) → Bool

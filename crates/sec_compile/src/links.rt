@@ -1,12 +1,11 @@
 ghost use Rattle.std.specs.Prelude.{◌≡◌, None, Some, false, true, map, IfErr, IfOk, OnOk};
 ghost use Rattle.std.specs.List.{list_any};
-ghost use Rattle.sec_ops.specs.Hits.{source_of};
 ghost use Rattle.sec_ops.specs.Selectors.{pattern_of, patterns_of};
 ghost use Rattle.sec_compile.specs.Links.{built_link, built_links};
-ghost use Rattle.sec_compile.specs.Unread.{IsFault, fault_of, first_fault, is_unread_link, is_unread_op, is_unread_selector, is_unread_target};
+ghost use Rattle.sec_compile.specs.Unread.{IsFault, fault_of, first_fault, is_unread_link, is_unread_selector, is_unread_target};
 
 use crate::CompileFault;
-use sec_ast::{Item, Link, Op, Rule, Select, Target};
+use sec_ast::{Item, Link, Rule, Select, Target};
 use sec_ops::{BuildFault, Built, NamePattern, build};
 use std::alloc::Global;
 use waf_plain::Seq;
@@ -83,19 +82,9 @@ fn build_link(alloc: Global, link: &Link) -> Result<BuiltLink, BuildFault>
     ensures read { OnOk result (is_unread_link link.now ≡ false) }
     ensures bad { IfErr result (λ e. e ≡ BuildFault.BadPattern → is_unread_link link.now ≡ true) }
 {
-    let op = build_op(alloc, &link.op)?;
+    let op = build(alloc, &link.op)?;
     let patterns = build_patterns(alloc, link.targets.as_slice())?;
     Ok(BuiltLink { op, patterns })
-}
-
-#[tactic(auto, using(crate::proofs::Readings::read_op, crate::proofs::Readings::unread_op))]
-fn build_op(alloc: Global, op: &Op) -> Result<Built, BuildFault>
-    ensures ok { IfOk result (λ built. built ≡ op.now) }
-    ensures read { OnOk result (is_unread_op op.now.kind (source_of op.now.text) ≡ false) }
-    ensures bad { IfErr result (λ e. e ≡ BuildFault.BadPattern
-        → is_unread_op op.now.kind (source_of op.now.text) ≡ true) }
-{
-    build(alloc, op)
 }
 
 fn build_patterns(alloc: Global, targets: &[Target]) -> Result<Seq<Option<NamePattern>>, BuildFault>

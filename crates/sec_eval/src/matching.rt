@@ -8,13 +8,13 @@ ghost use Rattle.sec_meaning.specs.Text.{text_of};
 ghost use Rattle.sec_meaning.specs.Values.{match_of, matched_as};
 ghost use Rattle.sec_ops.specs.Selectors.{is_matched};
 
+use crate::askers::LinkAsker;
 use crate::search::{Search, find_hit};
 use crate::text::expanded;
 use sec_ast::{Link, Target, Var};
 use sec_collect::{RowRef, Rows, TargetQuery, Vars};
-use sec_compile::BuiltLink;
 use sec_meaning::{Matched, Text};
-use sec_ops::{Built, NamePattern};
+use sec_ops::NamePattern;
 use std::alloc::Global;
 use waf_plain::{Bytes, NoMemory, Seq};
 
@@ -27,35 +27,34 @@ pub(crate) struct BorrowedRow<'a> {
     pub counted: bool,
 }
 
-/// What a link asks of each value: its operator, with the argument expanded.
+/// What a link asks of each value, with the argument of its operator expanded.
 #[derive(Drop)]
 pub(crate) struct Question<'a> {
     pub link: &'a Link,
-    pub op: &'a Built,
     pub argument: &'a [u8],
 }
 
 /// The rows that a link matches, in order. Rows are borrowed, and only those that match are copied.
-pub(crate) fn matches<'a>(
+pub(crate) fn matches(
     alloc: Global,
     vars: &Vars,
-    link: &'a Link,
-    built: &'a BuiltLink,
+    link: &Link,
+    asker: &mut LinkAsker<'_>,
 ) -> Result<Seq<Matched>, NoMemory>
-    requires { built.now ≡ built_link link.now }
-    ensures { IfOk result (λ rows. rows ≡ matches_in vars.now link.entry.now) }
+    requires { asker.old ≡ built_link link.now }
+    ensures rows { IfOk result (λ rows. rows ≡ matches_in vars.now link.now) }
+    ensures same { asker.new ≡ asker.old }
 {
     let argument = expanded(alloc, vars, &link.op.text)?;
     let question = Question {
         link,
-        op: &built.op,
         argument: argument.as_slice(),
     };
     let query = TargetQuery {
         targets: link.targets.as_slice(),
-        patterns: built.patterns.as_slice(),
+        patterns: asker.patterns(),
     };
-    matches_of(alloc, vars, &question, &query)
+    matches_of(alloc, vars, &question, asker, &query)
 }
 
 // The rows that are matched of what targets select.
@@ -63,11 +62,13 @@ fn matches_of(
     alloc: Global,
     vars: &Vars,
     question: &Question<'_>,
+    asker: &mut LinkAsker<'_>,
     query: &TargetQuery<'_, NamePattern>,
 ) -> Result<Seq<Matched>, NoMemory>
-    requires { question.now.op.now ≡ question.now.link.now.op }
-    ensures { IfOk result (λ rows. rows ≡ matched_of question.now
+    requires { asker.old.op ≡ question.now.link.now.op }
+    ensures rows { IfOk result (λ rows. rows ≡ matched_of question.now
         (selection is_matched (zip query.now.targets.now query.now.patterns.now) [] vars.now)) }
+    ensures same { asker.new ≡ asker.old }
 {
     let mut out = Seq::new(alloc);
     let mut rest = query.patterns;
@@ -75,7 +76,9 @@ fn matches_of(
         let Some((pattern, following)) = rest.split_first() else {
             return Ok(out);
         };
-        add_matches(alloc, vars, question, query, target, pattern, &mut out)?;
+        add_matches(
+            alloc, vars, question, asker, query, target, pattern, &mut out,
+        )?;
         rest = following;
     }
     Ok(out)
@@ -86,13 +89,15 @@ fn add_matches(
     alloc: Global,
     vars: &Vars,
     question: &Question<'_>,
+    asker: &mut LinkAsker<'_>,
     query: &TargetQuery<'_, NamePattern>,
     target: &Target,
     pattern: &Option<NamePattern>,
     out: &mut Seq<Matched>,
 ) -> Result<(), NoMemory>
-    requires { question.now.op.now ≡ question.now.link.now.op }
-    ensures { OnOk result (out.new ≡ out.old ++ matched_of question.now
+    requires { asker.old.op ≡ question.now.link.now.op }
+    ensures same { asker.new ≡ asker.old }
+    ensures out { OnOk result (out.new ≡ out.old ++ matched_of question.now
         (values_of is_matched (zip query.now.targets.now query.now.patterns.now) [] vars.now
         (target.now, pattern.now))) }
 {
@@ -102,21 +107,23 @@ fn add_matches(
     let rows = vars.rows(target.var);
     if target.count {
         let count = query.count(target, pattern, rows)?;
-        return add_count(alloc, question, target, count, out);
+        return add_count(alloc, question, asker, target, count, out);
     }
-    add_rows(alloc, question, query, target, pattern, rows, out)
+    add_rows(alloc, question, asker, query, target, pattern, rows, out)
 }
 
 // Adds the number of a target's rows, where that is matched.
 fn add_count(
     alloc: Global,
     question: &Question<'_>,
+    asker: &mut LinkAsker<'_>,
     target: &Target,
     count: u64,
     out: &mut Seq<Matched>,
 ) -> Result<(), NoMemory>
-    requires { question.now.op.now ≡ question.now.link.now.op }
-    ensures { OnOk result (out.new ≡ out.old ++ matched_of question.now (count_row target.now count ∷ [])) }
+    requires { asker.old.op ≡ question.now.link.now.op }
+    ensures same { asker.new ≡ asker.old }
+    ensures out { OnOk result (out.new ≡ out.old ++ matched_of question.now (count_row target.now count ∷ [])) }
 {
     let counted = RowRef::of_count(alloc, target, count)?;
     let row = BorrowedRow {
@@ -125,21 +132,23 @@ fn add_count(
         value: counted.value.as_slice(),
         counted: true,
     };
-    add_match(alloc, question, row, out)
+    add_match(alloc, question, asker, row, out)
 }
 
 // Adds the rows that a target leaves, where they are matched.
 fn add_rows(
     alloc: Global,
     question: &Question<'_>,
+    asker: &mut LinkAsker<'_>,
     query: &TargetQuery<'_, NamePattern>,
     target: &Target,
     pattern: &Option<NamePattern>,
     rows: Rows<'_>,
     out: &mut Seq<Matched>,
 ) -> Result<(), NoMemory>
-    requires { question.now.op.now ≡ question.now.link.now.op }
-    ensures { OnOk result (out.new ≡ out.old ++ matched_of question.now (map (value_row target.now.var) (filter
+    requires { asker.old.op ≡ question.now.link.now.op }
+    ensures same { asker.new ≡ asker.old }
+    ensures out { OnOk result (out.new ≡ out.old ++ matched_of question.now (map (value_row target.now.var) (filter
         (λ r. keeps is_matched (zip query.now.targets.now query.now.patterns.now) []
         (target.now, pattern.now) r.name)
         (row_list rows.entry)))) }
@@ -153,7 +162,7 @@ fn add_rows(
                 value,
                 counted: false,
             };
-            add_match(alloc, question, row, out)?;
+            add_match(alloc, question, asker, row, out)?;
         }
         rest = following;
     }
@@ -164,13 +173,15 @@ fn add_rows(
 fn add_match(
     alloc: Global,
     question: &Question<'_>,
+    asker: &mut LinkAsker<'_>,
     row: BorrowedRow<'_>,
     out: &mut Seq<Matched>,
 ) -> Result<(), NoMemory>
-    requires { question.now.op.now ≡ question.now.link.now.op }
-    ensures { OnOk result (out.new ≡ out.old ++ matched_of question.now (row_of row.entry ∷ [])) }
+    requires { asker.old.op ≡ question.now.link.now.op }
+    ensures same { asker.new ≡ asker.old }
+    ensures out { OnOk result (out.new ≡ out.old ++ matched_of question.now (row_of row.entry ∷ [])) }
 {
-    match match_of(alloc, question, row)? {
+    match match_of(alloc, question, asker, row)? {
         Some(matched) => out.push(matched),
         None => Ok(()),
     }
@@ -179,14 +190,16 @@ fn add_match(
 fn match_of(
     alloc: Global,
     question: &Question<'_>,
+    asker: &mut LinkAsker<'_>,
     row: BorrowedRow<'_>,
 ) -> Result<Option<Matched>, NoMemory>
-    requires { question.now.op.now ≡ question.now.link.now.op }
-    ensures { IfOk result (λ matched. matched
+    requires { asker.old.op ≡ question.now.link.now.op }
+    ensures same { asker.new ≡ asker.old }
+    ensures matched { IfOk result (λ matched. matched
         ≡ match_of question.now.link.now question.now.argument.now (row_of row.entry)) }
 {
     let link = question.link;
-    match find_hit(alloc, link, question.op, question.argument, row.value)? {
+    match find_hit(alloc, link, asker, question.argument, row.value)? {
         Search::Found { value, groups } => {
             if link.negated {
                 return Ok(None);

@@ -8,14 +8,14 @@ ghost use Rattle.sec_meaning.specs.Effect.{effect};
 ghost use Rattle.sec_meaning.specs.Phase.{Run, after, at_rule, follow, is_rejected, look, one_more, phase, walk, with_body};
 
 use crate::State;
+use crate::askers::{Askers, RuleAskers};
 use crate::effect::effect;
 use sec_ast::{Item, Listing, Rule, Verdict};
-use sec_compile::{BuiltLink, Ruleset};
 use sec_meaning::phase_number::{LOGGING, REQUEST_BODY, RESPONSE_HEADERS};
 use sec_meaning::{After, Passing, RuleFlow, Transaction, at_marker, is_off, is_on, too_large};
 use std::alloc::Global;
 use std::sync::ledger::Ledger;
-use waf_plain::{NoMemory, Seq, Steps};
+use waf_plain::{NoMemory, Steps};
 
 /// How a phase ended: the transaction goes on, or is interrupted.
 #[derive(Debug, PartialEq, Drop)]
@@ -52,29 +52,31 @@ fn follow(flow: RuleFlow, state: &mut State) -> Result<After, NoMemory>
 fn look_at<L: Ledger>(
     alloc: Global,
     rule: &Rule,
-    built: &[BuiltLink],
+    askers: &mut RuleAskers<'_>,
     state: &mut State,
     steps: &mut Steps<L>,
 ) -> Result<After, NoMemory>
-    requires { built.now ≡ map built_link rule.now.links }
+    requires { askers.old ≡ map built_link rule.now.links }
+    ensures same { askers.new ≡ askers.old }
     ensures ok { IfOk result (λ then. (rest : ThePassing → TheState → Run)
         → Continues steps.old (one_more (follow (effect rule.now state.old).0 (effect rule.now state.old).1 rest))
         steps.new (after then state.new rest)) }
     ensures most { steps.new ≡ steps.old + 1 }
 {
     steps.tick();
-    let flow = effect(alloc, rule, built, state)?;
+    let flow = effect(alloc, rule, askers, state)?;
     follow(flow, state)
 }
 
 fn look<L: Ledger>(
     alloc: Global,
     rule: &Rule,
-    built: &[BuiltLink],
+    askers: &mut RuleAskers<'_>,
     state: &mut State,
     steps: &mut Steps<L>,
 ) -> Result<After, NoMemory>
-    requires { built.now ≡ map built_link rule.now.links }
+    requires { askers.old ≡ map built_link rule.now.links }
+    ensures same { askers.new ≡ askers.old }
     ensures ok { IfOk result (λ then. (rest : ThePassing → TheState → Run)
         → Continues steps.old (look rule.now state.old rest) steps.new (after then state.new rest)) }
     ensures most { (rest : ThePassing → TheState → Run)
@@ -86,28 +88,29 @@ fn look<L: Ledger>(
     if state.is_removed(rule) {
         return Ok(After::GoOn(Passing::Looking));
     }
-    look_at(alloc, rule, built, state, steps)
+    look_at(alloc, rule, askers, state, steps)
 }
 
 fn at_rule<L: Ledger>(
     alloc: Global,
     passing: Passing,
     rule: &Rule,
-    built: &[BuiltLink],
+    askers: &mut RuleAskers<'_>,
     state: &mut State,
     steps: &mut Steps<L>,
 ) -> Result<After, NoMemory>
-    requires { built.now ≡ map built_link rule.now.links }
+    requires { askers.old ≡ map built_link rule.now.links }
+    ensures same { askers.new ≡ askers.old }
     ensures ok { IfOk result (λ then. (rest : ThePassing → TheState → Run)
         → Continues steps.old (at_rule passing rule.now state.old rest) steps.new (after then state.new rest)) }
     ensures most { (rest : ThePassing → TheState → Run)
         → steps.new ≤ steps.old + (at_rule passing rule.now state.old rest).looked }
 {
     match passing {
-        Passing::Looking => look(alloc, rule, built, state, steps),
+        Passing::Looking => look(alloc, rule, askers, state, steps),
         Passing::Skipping(count) => {
             if count == 0 {
-                return look(alloc, rule, built, state, steps);
+                return look(alloc, rule, askers, state, steps);
             }
             Ok(After::GoOn(Passing::Skipping(count - 1)))
         }
@@ -119,12 +122,13 @@ fn at_item<L: Ledger>(
     alloc: Global,
     number: u8,
     item: &Item,
-    built: &Seq<BuiltLink>,
+    askers: &mut RuleAskers<'_>,
     passing: Passing,
     state: &mut State,
     steps: &mut Steps<L>,
 ) -> Result<After, NoMemory>
-    requires { built.now ≡ built_links item.now }
+    requires { askers.old ≡ built_links item.now }
+    ensures same { askers.new ≡ askers.old }
     ensures ok { IfOk result (λ then. (left : List TheItem)
         → Continues steps.old (walk number (item.now ∷ left) passing state.old)
         steps.new (after then state.new (walk number left))) }
@@ -135,39 +139,38 @@ fn at_item<L: Ledger>(
         Item::Marker(marker) => Ok(After::GoOn(at_marker(marker, passing))),
         Item::Rule(rule) => {
             if rule.phase == number {
-                return at_rule(alloc, passing, rule, built.as_slice(), state, steps);
+                return at_rule(alloc, passing, rule, askers, state, steps);
             }
             Ok(After::GoOn(passing))
         }
     }
 }
 
-// The items of a listing for one phase, of which these were built.
-fn walk<L: Ledger>(
+/// The items of a listing for one phase, of which these are the askers.
+pub(crate) fn walk<L: Ledger>(
     alloc: Global,
     number: u8,
     items: &[Item],
-    built: &[Seq<BuiltLink>],
+    askers: &mut [RuleAskers<'_>],
     state: &mut State,
     steps: &mut Steps<L>,
 ) -> Result<Flow, NoMemory>
-    requires { built.now ≡ map built_links items.now }
+    requires { askers.old ≡ map built_links items.now }
+    ensures same { askers.new ≡ askers.old }
     ensures ok { IfOk result
         (λ flow. RunsTo steps.old (walk number items.now Passing.Looking state.old) steps.new state.new flow) }
     ensures most { steps.new ≤ steps.old + (walk number items.now Passing.Looking state.old).looked }
 {
     let mut passing = Passing::Looking;
-    let mut rest = built;
+    let mut place = 0;
     for item in items {
-        let Some((links, following)) = rest.split_first() else {
-            unreachable!()
-        };
-        match at_item(alloc, number, item, links, passing, state, steps)? {
+        let asker = &mut askers[place];
+        match at_item(alloc, number, item, asker, passing, state, steps)? {
             After::GoOn(next) => passing = next,
             After::End(Some(verdict)) => return Ok(Flow::Interrupted(verdict)),
             After::End(None) => return Ok(Flow::Goes),
         }
-        rest = following;
+        place += 1;
     }
     Ok(Flow::Goes)
 }
@@ -181,54 +184,42 @@ fn is_rejected(listing: &Listing, state: &State) -> bool
 // The phase of the request's body, once that is opened.
 fn with_body<L: Ledger>(
     alloc: Global,
-    rules: &Ruleset,
+    askers: &mut Askers<'_>,
     state: &mut State,
     steps: &mut Steps<L>,
 ) -> Result<Flow, NoMemory>
-    ensures ok { IfOk result (λ flow. RunsTo steps.old (with_body rules.now state.old) steps.new state.new flow) }
-    ensures most { steps.new ≤ steps.old + (with_body rules.now state.old).looked }
+    ensures ok { IfOk result (λ flow. RunsTo steps.old (with_body askers.old state.old) steps.new state.new flow) }
+    ensures most { steps.new ≤ steps.old + (with_body askers.old state.old).looked }
+    ensures same { askers.new ≡ askers.old }
 {
-    if is_rejected(rules.listing(), state) {
+    if is_rejected(askers.rules().listing(), state) {
         state.interrupt(too_large());
         return Ok(Flow::Interrupted(too_large()));
     }
-    walk(
-        alloc,
-        REQUEST_BODY,
-        rules.listing().items.as_slice(),
-        rules.built(),
-        state,
-        steps,
-    )
+    askers.walk(alloc, REQUEST_BODY, state, steps)
 }
 
 /// Runs the phase of that number over the state of a transaction, and says whether it interrupts. A
 /// step is a rule that is looked at. After `NoMemory` the state is only dropped.
 pub fn run_phase<L: Ledger>(
     alloc: Global,
-    rules: &Ruleset,
+    askers: &mut Askers<'_>,
     number: u8,
     state: &mut State,
     steps: &mut Steps<L>,
 ) -> Result<Flow, NoMemory>
-    ensures flow { IfOk result (λ flow. flow ≡ flow_by (phase rules.now number state.old).verdict) }
-    ensures state { OnOk result (state.new ≡ (phase rules.now number state.old).state) }
-    ensures steps { OnOk result (steps.new ≡ steps.old + (phase rules.now number state.old).looked) }
-    ensures most { steps.new ≤ steps.old + rules_in number rules.now.items }
+    ensures flow { IfOk result (λ flow. flow ≡ flow_by (phase askers.old number state.old).verdict) }
+    ensures state { OnOk result (state.new ≡ (phase askers.old number state.old).state) }
+    ensures steps { OnOk result (steps.new ≡ steps.old + (phase askers.old number state.old).looked) }
+    ensures most { steps.new ≤ steps.old + rules_in number askers.old.items }
+    ensures same { askers.new ≡ askers.old }
 {
     if number < state.next_phase() {
         return Ok(Flow::Goes);
     }
     if number == REQUEST_BODY {
-        state.open_body(alloc, rules.listing())?;
-        return with_body(alloc, rules, state, steps);
+        state.open_body(alloc, askers.rules().listing())?;
+        return with_body(alloc, askers, state, steps);
     }
-    walk(
-        alloc,
-        number,
-        rules.listing().items.as_slice(),
-        rules.built(),
-        state,
-        steps,
-    )
+    askers.walk(alloc, number, state, steps)
 }

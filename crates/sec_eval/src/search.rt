@@ -6,10 +6,11 @@ ghost use Rattle.sec_meaning.specs.Values.{changes, first_hit, tested};
 ghost use Rattle.sec_ops.specs.Hits.{hit};
 ghost use Rattle.sec_transforms.specs.Apply.{chained};
 
+use crate::askers::LinkAsker;
 use crate::text::chained;
 use sec_ast::{Link, Transform};
 use sec_meaning::Text;
-use sec_ops::{Built, Hit, holds};
+use sec_ops::Hit;
 use sec_transforms::apply;
 use std::alloc::Global;
 use waf_plain::{Bytes, NoMemory, Seq};
@@ -26,32 +27,38 @@ pub(crate) enum Search<'a> {
     Missed(Text<'a>),
 }
 
-/// What an operator that was built, with its argument expanded, finds in the values that a link tests
-/// of one. Only what transformations make is copied.
+/// What the operator of a link, with its argument expanded, finds in the values that the link tests of
+/// one. Only what transformations make is copied.
 pub(crate) fn find_hit<'a>(
     alloc: Global,
     link: &Link,
-    built: &Built,
+    asker: &mut LinkAsker<'_>,
     argument: &[u8],
     value: &'a [u8],
 ) -> Result<Search<'a>, NoMemory>
     ensures found { IfOk result
-        (λ s. found_by s ≡ first_hit (hit built.now argument.now) (tested link.now value.entry.now)) }
+        (λ s. found_by s ≡ first_hit (hit asker.old.op argument.now) (tested link.now value.entry.now)) }
     ensures missed { IfOk result (λ s. IsMissed (chained link.now.transforms value.entry.now) s) }
+    ensures same { asker.new ≡ asker.old }
 {
     if link.multi {
-        return search_each(alloc, &link.transforms, built, argument, value);
+        return search_each(alloc, &link.transforms, asker, argument, value);
     }
     let value = chained(alloc, &link.transforms, value)?;
-    search_in(built, argument, value)
+    search_in(asker, argument, value)
 }
 
 // Tests one value.
-fn search_in<'a>(built: &Built, argument: &[u8], value: Text<'a>) -> Result<Search<'a>, NoMemory>
-    ensures found { IfOk result (λ s. found_by s ≡ first_hit (hit built.now argument.now) (text_of value.entry ∷ [])) }
+fn search_in<'a>(
+    asker: &mut LinkAsker<'_>,
+    argument: &[u8],
+    value: Text<'a>,
+) -> Result<Search<'a>, NoMemory>
+    ensures found { IfOk result (λ s. found_by s ≡ first_hit (hit asker.old.op argument.now) (text_of value.entry ∷ [])) }
     ensures missed { IfOk result (λ s. IsMissed (text_of value.entry) s) }
+    ensures same { asker.new ≡ asker.old }
 {
-    match holds(built, argument, value.as_slice())? {
+    match asker.ask(argument, value.as_slice())? {
         Hit::No => Ok(Search::Missed(value)),
         Hit::Yes { groups } => Ok(Search::Found { value, groups }),
     }
@@ -61,17 +68,18 @@ fn search_in<'a>(built: &Built, argument: &[u8], value: Text<'a>) -> Result<Sear
 fn search_each<'a>(
     alloc: Global,
     transforms: &Seq<Transform>,
-    built: &Built,
+    asker: &mut LinkAsker<'_>,
     argument: &[u8],
     value: &'a [u8],
 ) -> Result<Search<'a>, NoMemory>
     ensures found { IfOk result (λ s. found_by s
-        ≡ first_hit (hit built.now argument.now) (value.entry.now ∷ changes transforms.now value.entry.now)) }
+        ≡ first_hit (hit asker.old.op argument.now) (value.entry.now ∷ changes transforms.now value.entry.now)) }
     ensures missed { IfOk result (λ s. IsMissed (chained transforms.now value.entry.now) s) }
+    ensures same { asker.new ≡ asker.old }
 {
-    let mut search = search_in(built, argument, Text::Borrowed(value))?;
+    let mut search = search_in(asker, argument, Text::Borrowed(value))?;
     for transform in transforms.as_slice() {
-        search = search_on(alloc, *transform, built, argument, search)?;
+        search = search_on(alloc, *transform, asker, argument, search)?;
     }
     Ok(search)
 }
@@ -80,15 +88,16 @@ fn search_each<'a>(
 fn search_on<'a>(
     alloc: Global,
     transform: Transform,
-    built: &Built,
+    asker: &mut LinkAsker<'_>,
     argument: &[u8],
     search: Search<'a>,
 ) -> Result<Search<'a>, NoMemory>
     ensures found { IfOk result (λ s. (left : List TheTransform)
-        → found_then (hit built.now argument.now) left s
-        ≡ found_then (hit built.now argument.now) (transform ∷ left) search.entry) }
+        → found_then (hit asker.old.op argument.now) left s
+        ≡ found_then (hit asker.old.op argument.now) (transform ∷ left) search.entry) }
     ensures missed { IfOk result (λ s. (left : List TheTransform) (last : List ℕ)
         → LeadsTo last (transform ∷ left) search.entry → LeadsTo last left s) }
+    ensures same { asker.new ≡ asker.old }
 {
     match search {
         Search::Found { value, groups } => Ok(Search::Found { value, groups }),
@@ -97,7 +106,7 @@ fn search_on<'a>(
             if next.as_slice() == value.as_slice() {
                 return Ok(Search::Missed(value));
             }
-            search_in(built, argument, Text::Owned(next))
+            search_in(asker, argument, Text::Owned(next))
         }
     }
 }

@@ -1,4 +1,5 @@
 pub mod Digits
+pub mod GateLemmas
 pub mod Meanings
 pub mod PatternLemmas
 pub mod Selecting

@@ -2,6 +2,8 @@
 use Rattle.std.proofs.Common.{◌≡◌, ◌≢◌, ℕ, ◌<◌, ◌≤◌, List, Option, None, Some, IsSomeAnd, IfSome, inl, inr, refl, option_and_then, length, arith, ◌+◌, ◌*◌, zero, suc, map, get_or, ap, ap₂, sym, ◌∙◌, ◌∷◌, option_map, string_bytes}
 use Rattle.std.proofs.lemmas.Bool.{cond-true, cond-false}
 use Rattle.std.proofs.lemmas.Bool.Decides.{nat_tests}
+use Rattle.regex_hir.specs.declared.hir.Hir.{Hir}
+use Rattle.regex_hir.specs.Meaning.{meaning}
 use Rattle.regex_syntax.specs.Verdict.{Reads, Refuses}
 use Rattle.regex_syntax.specs.Grammar.{Names, group_count}
 use Rattle.regex_syntax.specs.Brackets.{Nested}
@@ -34,6 +36,11 @@ taken : (o : Option (Nested Re × Names)) (a : Re) (names : Names) →
     IsReading (option_and_then within_limit o) a names
 taken None a names h = absurd h
 taken (Some p) a names h = ((p.0.value, p.1), within p.0 p.1 h.0, h.1, h.2)
+
+-- what `parse` ensures of an `Ok`
+pub parsed : (source : List ℕ) (hir : Hir) (names : Names) → Reads rule_config source hir names → IsReading (reading_of source) (meaning hir) names
+unfolding Reads
+parsed source hir names is_read = taken _ _ _ is_read
 
 -- what `build` ensures of an `Ok`
 pub reading : (r : Regex) (source : List ℕ) → regex_source r ≡ source → regex_config r ≡ rule_config → IsReadFromSource r →

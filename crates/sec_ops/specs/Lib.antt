@@ -1,5 +1,7 @@
 pub mod Askers
+pub mod Bytes
 pub mod Escapes
+pub mod Gates
 pub mod Hits
 pub mod Number
 pub mod Pattern

@@ -1,18 +1,20 @@
-ghost use Rattle.std.specs.Prelude.{◌≡◌, List, ℕ, [], None, IfOk, IfErr, IfSome, IsErrOf, IsSome, is_some, map, nat_eq};
+ghost use Rattle.std.specs.Prelude.{◌≡◌, List, ℕ, [], IfOk, IfErr, IfSome, IsErrOf, OnOk, false, is_none, is_some, map, nat_eq, true};
 ghost use Rattle.std.specs.Cmp.Lexicographic.{pointwise};
-ghost use Rattle.sec_ast.specs.declared.operator.OpKind.TheVariants.{Rx, Pm, IpMatch, ValidateByteRange};
+ghost use Rattle.sec_ast.specs.declared.operator.OpKind.TheVariants.{Pm, IpMatch, ValidateByteRange};
 ghost use Rattle.ip_set.specs.Blocks.{IsFirstBad};
-ghost use Rattle.sec_ops.specs.declared.built.Test.TheVariants.{Pattern};
-ghost use Rattle.sec_ops.specs.Hits.{IsBuiltFrom, IsBytes, groups_of, has, hit, hit_of, pattern_hit, phrase_hit, plain_test, source_of, source_reading, test_hit, when};
+ghost use Rattle.sec_ops.specs.declared.built.Test.TheVariants.{Pattern as is_pattern};
+ghost use Rattle.sec_ops.specs.Bytes.{IsBytes};
+ghost use Rattle.sec_ops.specs.Hits.{IsBuiltFrom, bytes_hit, bytes_reading, groups_of, has, hit, hit_of, is_unread_op, pattern_hit, phrase_hit, plain_test, source_of, source_reading, test_hit, when};
 
 use crate::escapes::{has_bad_escape, is_text};
+use crate::gates::is_open;
 use crate::numbers::order_of;
-use crate::pattern::{compile, part, texts};
+use crate::pattern::{Pattern, compile, part, texts};
 use crate::phrases::{fold, set_of};
 use crate::ranges::{Range, has_other, read_ranges};
 use ip_set::{IpFault, IpSet};
+use pattern_text::{WordFault, word_pattern};
 use phrase_set::{PhraseSet, place};
-use regex::bytes::Regex;
 use sec_ast::{Op, OpKind, Part};
 use std::alloc::Global;
 use std::marker::Model;
@@ -22,7 +24,8 @@ use waf_plain::{Bytes, NoMemory, Seq};
 /// Why an operator is not built.
 #[derive(Clone, Copy, Debug, PartialEq, Eq)]
 pub enum BuildFault {
-    /// The pattern has no reading in the grammar of `regex`, or nests deeper than its bound.
+    /// The pattern has no reading in the grammar of `regex`, or nests deeper than its bound; one of
+    /// `rxBytes` has no wording, or that has no reading.
     BadPattern,
     /// No memory; the compiled pattern would pass the size limit of `regex`; or a word of `ipMatch`
     /// is no address and no block, which no operator that was read from rules has.
@@ -49,7 +52,7 @@ pub enum Hit {
 }
 
 /// An operator that is ready to be asked. A pattern is compiled once; what a search needs is made
-/// for one value and dropped. Contracts see it as the operator that it was built from, of which no
+/// for one value and dropped, or kept by an `Asker`. Contracts see it as the operator that it was built from, of which no
 /// copy is kept.
 #[derive(Drop)]
 pub struct Built {
@@ -71,12 +74,26 @@ impl Model for Built {
 }
 
 impl Built {
-    /// The compiled pattern, where the operator is one.
-    pub(crate) fn pattern(&self) -> Option<&Regex>
-        ensures { IfSome result (λ regex. IsBuiltFrom (Pattern regex.now) self.now) }
+    pub(crate) fn alloc(&self) -> Global {
+        self.alloc
+    }
+
+    /// Whether there may be a hit in a value. No pattern is searched for.
+    pub(crate) fn may_hit(&self, value: &[u8]) -> Result<bool, NoMemory>
+        ensures { IfOk result (λ may. may ≡ false → (argument : List ℕ) → hit self.now argument value.now ≡ None) }
     {
         match &self.test {
-            Test::Pattern(regex) => Some(regex),
+            Test::Pattern(pattern) => is_open(self.alloc, &pattern.gate, value),
+            _ => Ok(true),
+        }
+    }
+
+    /// The compiled pattern, where the operator is one.
+    pub(crate) fn pattern(&self) -> Option<&Pattern>
+        ensures { IfSome result (λ pattern. IsBuiltFrom (is_pattern pattern.now) self.now) }
+    {
+        match &self.test {
+            Test::Pattern(pattern) => Some(pattern),
             _ => None,
         }
     }
@@ -84,7 +101,7 @@ impl Built {
 
 #[derive(Drop)]
 enum Test {
-    Pattern(Regex),
+    Pattern(Pattern),
     /// In lower case.
     Phrases(PhraseSet),
     Addresses(IpSet),
@@ -96,8 +113,8 @@ enum Test {
 pub fn build(alloc: Global, op: &Op) -> Result<Built, BuildFault>
     ensures ok { IfOk result (λ built. built ≡ op.now) }
     ensures bad { IfErr result (λ e. e ≡ BuildFault.BadPattern
-        → (op.now.kind ≡ Rx) × (source_reading (source_of op.now.text) ≡ None)) }
-    ensures read { IfOk result (λ _. op.now.kind ≡ Rx → IsSome (source_reading (source_of op.now.text))) }
+        → is_unread_op op.now.kind (source_of op.now.text) ≡ true) }
+    ensures read { OnOk result (is_unread_op op.now.kind (source_of op.now.text) ≡ false) }
 
     // No set of addresses is built of a word that names none.
     ensures word { (at : ℕ) → op.now.kind ≡ IpMatch → IsFirstBad op.now.words at → IsErrOf result BuildFault.NoMemory }
@@ -115,12 +132,13 @@ pub fn build(alloc: Global, op: &Op) -> Result<Built, BuildFault>
 fn test_of(alloc: Global, op: &Op) -> Result<Test, BuildFault>
     ensures ok { IfOk result (λ test. IsBuiltFrom test op.now) }
     ensures bad { IfErr result (λ e. e ≡ BuildFault.BadPattern
-        → (op.now.kind ≡ Rx) × (source_reading (source_of op.now.text) ≡ None)) }
-    ensures read { IfOk result (λ _. op.now.kind ≡ Rx → IsSome (source_reading (source_of op.now.text))) }
+        → is_unread_op op.now.kind (source_of op.now.text) ≡ true) }
+    ensures read { OnOk result (is_unread_op op.now.kind (source_of op.now.text) ≡ false) }
     ensures word { (at : ℕ) → op.now.kind ≡ IpMatch → IsFirstBad op.now.words at → IsErrOf result BuildFault.NoMemory }
 {
     match op.kind {
         OpKind::Rx => pattern_test(alloc, source_of(op.text.as_slice())),
+        OpKind::RxBytes => bytes_test(alloc, source_of(op.text.as_slice())),
         OpKind::Pm => phrases_test(alloc, &op.words),
         OpKind::IpMatch => addresses_test(alloc, &op.words),
         OpKind::ValidateByteRange => ranges_test(alloc, &op.words),
@@ -140,15 +158,29 @@ fn source_of(parts: &[Part]) -> &[u8]
 fn pattern_test(alloc: Global, source: &[u8]) -> Result<Test, BuildFault>
     ensures ok { IfOk result (λ test. (argument value : List ℕ)
         → IsBytes value → test_hit test argument value ≡ pattern_hit source.now value) }
-    ensures bad { IfErr result (λ e. e ≡ BuildFault.BadPattern → source_reading source.now ≡ None) }
-    ensures read { IfOk result (λ _. IsSome (source_reading source.now)) }
+    ensures bad { IfErr result (λ e. e ≡ BuildFault.BadPattern → is_none (source_reading source.now) ≡ true) }
+    ensures read { OnOk result (is_none (source_reading source.now) ≡ false) }
 {
     let Ok(text) = std::str::from_utf8(source) else {
         return Err(BuildFault::BadPattern);
     };
     match compile(alloc, text) {
-        Ok(regex) => Ok(Test::Pattern(regex)),
+        Ok(pattern) => Ok(Test::Pattern(pattern)),
         Err(fault) => Err(fault),
+    }
+}
+
+/// The wording of a pattern of PCRE, compiled.
+fn bytes_test(alloc: Global, source: &[u8]) -> Result<Test, BuildFault>
+    ensures ok { IfOk result (λ test. (argument value : List ℕ)
+        → IsBytes value → test_hit test argument value ≡ bytes_hit source.now value) }
+    ensures bad { IfErr result (λ e. e ≡ BuildFault.BadPattern → is_none (bytes_reading source.now) ≡ true) }
+    ensures read { OnOk result (is_none (bytes_reading source.now) ≡ false) }
+{
+    match word_pattern(alloc, source) {
+        Ok(text) => pattern_test(alloc, text.as_slice()),
+        Err(WordFault::Unsupported) => Err(BuildFault::BadPattern),
+        Err(WordFault::NoMemory) => Err(BuildFault::NoMemory),
     }
 }
 
@@ -192,7 +224,7 @@ pub fn holds(built: &Built, argument: &[u8], value: &[u8]) -> Result<Hit, NoMemo
     ensures { IfOk result (λ found. groups_of found ≡ hit built.now argument.now value.now) }
 {
     match &built.test {
-        Test::Pattern(regex) => match texts(built.alloc, regex, value)? {
+        Test::Pattern(pattern) => match texts(built.alloc, pattern, value)? {
             None => Ok(Hit::No),
             Some(groups) => Ok(Hit::Yes { groups }),
         },
@@ -246,6 +278,7 @@ fn plain_test(kind: OpKind, argument: &[u8], value: &[u8]) -> bool
         OpKind::ValidateUtf8Encoding => !is_text(value),
         OpKind::UnconditionalMatch => true,
         OpKind::Rx => false,
+        OpKind::RxBytes => false,
         OpKind::Pm => false,
         OpKind::IpMatch => false,
         OpKind::ValidateByteRange => false,

@@ -8,11 +8,13 @@ mod askers;
 mod built;
 mod characters;
 mod escapes;
+mod gates;
 mod laws;
 mod numbers;
 mod pattern;
 mod phrases;
 mod ranges;
+mod searches;
 mod selectors;
 
 pub use askers::Asker;

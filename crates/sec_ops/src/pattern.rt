@@ -4,16 +4,42 @@ ghost use Rattle.regex.specs.Views.{builder_config, builder_source};
 ghost use Rattle.regex.specs.Bytes.{IsReadFromSource, group_count, regex_config, regex_pattern, regex_source};
 ghost use Rattle.regex.specs.Locations.{location, location_count};
 ghost use Rattle.regex.specs.Patterns.{find};
+ghost use Rattle.sec_ops.specs.Gates.{IsGate};
 ghost use Rattle.sec_ops.specs.Pattern.{between, reading_of, rule_config, spans_of, texts_in};
 
 use crate::BuildFault;
+use crate::gates::{Gate, gate_of, is_open};
 use regex::bytes::Regex;
 use regex::{CaptureLocations, Error, RegexBuilder};
 use std::alloc::Global;
 use waf_plain::{Bytes, NoMemory, Seq};
 
+/// A compiled pattern, and what is asked of a value before a search for it.
+#[derive(Drop)]
+pub(crate) struct Pattern {
+    pub(crate) regex: Regex,
+    pub(crate) gate: Gate,
+    ghost gated: { IsGate (regex_pattern regex) gate },
+}
+
 /// Compiles a pattern.
-pub(crate) fn compile(alloc: Global, source: &str) -> Result<Regex, BuildFault>
+pub(crate) fn compile(alloc: Global, source: &str) -> Result<Pattern, BuildFault>
+    ensures source { IfOk result (λ p. regex_source p.regex ≡ source.now) }
+    ensures config { IfOk result (λ p. regex_config p.regex ≡ rule_config) }
+    ensures read { IfOk result (λ p. IsReadFromSource p.regex) }
+    ensures has_reading { IfOk result (λ _. IsSome (reading_of source.now)) }
+    ensures bad { IfErr result (λ e. e ≡ BuildFault.BadPattern → reading_of source.now ≡ None) }
+{
+    match regex_of(alloc, source) {
+        Ok(regex) => match gate_of(alloc, source) {
+            Ok(gate) => Ok(Pattern { regex, gate }),
+            Err(NoMemory) => Err(BuildFault::NoMemory),
+        },
+        Err(fault) => Err(fault),
+    }
+}
+
+fn regex_of(alloc: Global, source: &str) -> Result<Regex, BuildFault>
     ensures source { IfOk result (λ r. regex_source r ≡ source.now) }
     ensures config { IfOk result (λ r. regex_config r ≡ rule_config) }
     ensures read { IfOk result IsReadFromSource }
@@ -65,13 +91,16 @@ fn groups_in(alloc: Global, regex: &Regex, value: &[u8]) -> Result<Option<Spans>
 /// The texts of the groups of the first match of a compiled pattern.
 pub(crate) fn texts(
     alloc: Global,
-    regex: &Regex,
+    pattern: &Pattern,
     value: &[u8],
 ) -> Result<Option<Seq<Option<Bytes>>>, NoMemory>
     ensures { IfOk result (λ g. g ≡ option_map (texts_in value.now)
-        (option_map (spans_of (group_count regex.now)) (find (regex_pattern regex.now) value.now 0))) }
+        (option_map (spans_of (group_count pattern.now.regex)) (find (regex_pattern pattern.now.regex) value.now 0))) }
 {
-    match groups_in(alloc, regex, value)? {
+    if !is_open(alloc, &pattern.gate, value)? {
+        return Ok(None);
+    }
+    match groups_in(alloc, &pattern.regex, value)? {
         None => Ok(None),
         Some(spans) => Ok(Some(texts_of(alloc, spans.as_slice(), value)?)),
     }

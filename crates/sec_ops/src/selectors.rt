@@ -1,4 +1,4 @@
-ghost use Rattle.std.specs.Prelude.{◌≡◌, None, IfErr, IfOk, IsSome, is_some};
+ghost use Rattle.std.specs.Prelude.{◌≡◌, IfErr, IfOk, OnOk, false, is_none, is_some, true};
 ghost use Rattle.sec_ast.specs.declared.operator.OpKind.TheVariants.{Rx};
 ghost use Rattle.sec_ops.specs.Hits.{groups_of, source_of, source_reading};
 ghost use Rattle.sec_ops.specs.Selectors.{selector_source};
@@ -41,11 +41,12 @@ impl Selector for NamePattern {
 
 impl NamePattern {
     /// Reads a pattern without regard to case.
+    #[tactic(auto, using(crate::proofs::Meanings::unread_rx))]
     pub fn read(alloc: Global, pattern: &[u8]) -> Result<NamePattern, BuildFault>
         ensures ok { IfOk result (λ read. read ≡ pattern.now) }
-        ensures read { IfOk result (λ _. IsSome (source_reading (selector_source pattern.now))) }
+        ensures read { OnOk result (is_none (source_reading (selector_source pattern.now)) ≡ false) }
         ensures bad { IfErr result (λ e. e ≡ BuildFault.BadPattern
-            → source_reading (selector_source pattern.now) ≡ None) }
+            → is_none (source_reading (selector_source pattern.now)) ≡ true) }
     {
         let op = operator(alloc, pattern)?;
         let built = build(alloc, &op)?;

@@ -73,6 +73,7 @@ expanded negated kind argument = macro_of argument >>= λ text. Ok (with_text ne
 
 abbrev pub with_argument : Bool → List ℕ → OpKind → Result Operator Bad
 with_argument negated argument kinds.Rx = Ok (with_text negated kinds.Rx (literal argument))
+with_argument negated argument kinds.RxBytes = Ok (with_text negated kinds.RxBytes (literal argument))
 with_argument negated argument kinds.Pm = phrases_of argument >>= λ words. Ok (with_words negated kinds.Pm words)
 with_argument negated argument kinds.Streq = expanded negated kinds.Streq argument
 with_argument negated argument kinds.Contains = expanded negated kinds.Contains argument

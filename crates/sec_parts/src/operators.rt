@@ -1,4 +1,4 @@
-ghost use Rattle.std.specs.Prelude.{◌≡◌, ◌∷◌, ◌≤◌, [], length, take, drop, IfOk, true, false};
+ghost use Rattle.std.specs.Prelude.{◌≡◌, ◌∷◌, ◌≤◌, [], length, take, drop, IfOk, Ok, true, false};
 ghost use Rattle.std.specs.List.{position_or_len};
 ghost use Rattle.sec_text.specs.Quotes.{is_blank};
 ghost use Rattle.sec_parts.specs.Results.{Gives, IsBad};
@@ -163,11 +163,16 @@ fn read_without(
     }
 }
 
-fn read_literal(alloc: Global, negated: bool, argument: &[u8]) -> Result<Operator, Refusal>
-    ensures { Gives (λ o. o) result (with_argument negated argument.now OpKind.Rx) }
+fn read_literal(
+    alloc: Global,
+    negated: bool,
+    kind: OpKind,
+    argument: &[u8],
+) -> Result<Operator, Refusal>
+    ensures { Gives (λ o. o) result (Ok (with_text negated kind (literal argument.now))) }
 {
     let text = literal_text(alloc, argument)?;
-    Ok(of_text(alloc, negated, OpKind::Rx, text))
+    Ok(of_text(alloc, negated, kind, text))
 }
 
 fn read_pm(alloc: Global, negated: bool, argument: &[u8]) -> Result<Operator, Refusal>
@@ -201,7 +206,8 @@ fn read_argument(
     ensures { Gives (λ o. o) result (with_argument negated argument.now kind) }
 {
     match kind {
-        OpKind::Rx => read_literal(alloc, negated, argument),
+        OpKind::Rx => read_literal(alloc, negated, kind, argument),
+        OpKind::RxBytes => read_literal(alloc, negated, kind, argument),
         OpKind::Pm => read_pm(alloc, negated, argument),
         OpKind::IpMatch => read_ip_match(alloc, negated, argument),
         OpKind::ValidateByteRange => read_byte_range(alloc, negated, argument),

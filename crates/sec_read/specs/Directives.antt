@@ -16,6 +16,7 @@ directive_name directives.SecDefaultAction = codes "SecDefaultAction"
 directive_name directives.Include = codes "Include"
 directive_name directives.SecRuleRemoveById = codes "SecRuleRemoveById"
 directive_name directives.SecRuleRemoveByTag = codes "SecRuleRemoveByTag"
+directive_name directives.SecPatternMode = codes "SecPatternMode"
 directive_name (directives.Set settings.Engine) = codes "SecRuleEngine"
 directive_name (directives.Set settings.RequestBodyAccess) = codes "SecRequestBodyAccess"
 directive_name (directives.Set settings.RequestBodyLimit) = codes "SecRequestBodyLimit"
@@ -32,6 +33,7 @@ all_directives =
     directives.Include ∷
     directives.SecRuleRemoveById ∷
     directives.SecRuleRemoveByTag ∷
+    directives.SecPatternMode ∷
     directives.Set settings.Engine ∷
     directives.Set settings.RequestBodyAccess ∷
     directives.Set settings.RequestBodyLimit ∷

@@ -3,6 +3,7 @@ pub mod Faults
 pub mod Items
 pub mod Defaults
 pub mod Settings
+pub mod Modes
 pub mod Removals
 pub mod Names
 pub mod Directives

@@ -18,18 +18,26 @@ use Rattle.sec_read.specs.declared.faults.Cause.TheVariants as causes
 use Rattle.sec_read.specs.declared.faults.Found.{Found}
 use Rattle.sec_read.specs.declared.links.TheConstants.{DEFAULT_PHASE, LINK_LIMIT}
 use Rattle.sec_read.specs.declared.links.Condition.{Condition}
+use Rattle.sec_read.specs.declared.modes.PatternMode.{PatternMode}
 use Rattle.sec_read.specs.declared.reading.Reading.{Reading}
 use Rattle.sec_read.specs.declared.reading.Unfinished.{Unfinished}
 use Rattle.sec_read.specs.Defaults.{default_at}
 use Rattle.sec_read.specs.Faults.{fault, placed}
 use Rattle.sec_read.specs.FileWords.{Named}
 use Rattle.sec_read.specs.Items.{has_id, is_full}
+use Rattle.sec_read.specs.Modes.{kind_in}
 use Rattle.sec_read.specs.Operators.{operator_at}
 
 -- ---- what a link tests
 
-abbrev pub tested : List Target → Operator → Condition
-tested targets operator = record { targets = targets; always = false; negated = operator.negated; op = operator.op }
+-- a pattern is read in the mode that is in force
+abbrev pub tested : PatternMode → List Target → Operator → Condition
+tested mode targets operator = record {
+  targets = targets;
+  always = false;
+  negated = operator.negated;
+  op = record operator.op { kind = kind_in mode operator.op.kind };
+}
 
 -- of a SecAction
 abbrev pub always : Condition
@@ -114,7 +122,7 @@ acts_of stand (Some text) = actions_in stand text
 abbrev pub acting : List ℕ → ℕ → List Target → Option (List ℕ) → Reading → Operator × ℕ → Result Reading Found
 acting file line targets actions reading stated = do
   acts ← placed file line (acts_of (stand_of reading.unfinished) actions)
-  linked file line (tested targets stated.0) acts reading.unfinished (record reading { total = stated.1 })
+  linked file line (tested reading.mode targets stated.0) acts reading.unfinished (record reading { total = stated.1 })
 
 unfoldable pub rule_with : Named → List ℕ → ℕ → List ℕ → List ℕ → Option (List ℕ) → Reading → Result Reading Found
 rule_with files file line targets operator actions reading = do

@@ -13,6 +13,7 @@ use Rattle.sec_read.specs.declared.faults.Halt.TheVariants as halts
 use Rattle.sec_read.specs.declared.faults.Kind.{Kind}
 use Rattle.sec_read.specs.declared.faults.Kind.TheVariants as kinds
 use Rattle.sec_read.specs.declared.files.TheConstants.{DEPTH_LIMIT}
+use Rattle.sec_read.specs.declared.modes.PatternMode.TheVariants as modes
 use Rattle.sec_read.specs.declared.reading.Reading.{Reading}
 use Rattle.sec_read.specs.declared.texts.Text.{Text}
 use Rattle.sec_read.specs.Defaults.{first_defaults}
@@ -93,6 +94,7 @@ nothing_read = record {
   unfinished = None;
   defaults = first_defaults;
   settings = first_settings;
+  mode = modes.Unicode;
   removals = no_removals;
   total = 0;
 }

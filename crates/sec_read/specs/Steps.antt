@@ -9,6 +9,7 @@ use Rattle.sec_read.specs.declared.directive.Directive.{Directive}
 use Rattle.sec_read.specs.declared.directive.Directive.TheVariants as directives
 use Rattle.sec_read.specs.declared.faults.Cause.TheVariants as causes
 use Rattle.sec_read.specs.declared.faults.Found.{Found}
+use Rattle.sec_read.specs.declared.modes.PatternMode.{PatternMode}
 use Rattle.sec_read.specs.declared.reading.Reading.{Reading}
 use Rattle.sec_read.specs.declared.reading.Unfinished.{Unfinished}
 use Rattle.sec_read.specs.declared.settings.Setting.{Setting}
@@ -18,6 +19,7 @@ use Rattle.sec_read.specs.Directives.{directive_of, is_left_out}
 use Rattle.sec_read.specs.Faults.{fault, placed}
 use Rattle.sec_read.specs.FileWords.{Named}
 use Rattle.sec_read.specs.Links.{action_line, rule_line}
+use Rattle.sec_read.specs.Modes.{mode_named}
 use Rattle.sec_read.specs.Removals.{with_ids, with_tag}
 use Rattle.sec_read.specs.Settings.{with_setting}
 
@@ -59,6 +61,14 @@ setting_line file line name setting (word ∷ []) reading =
     now_set file line word (with_setting setting word reading.settings) reading
 setting_line file line name setting given reading = fault file line causes.BadWord name
 
+abbrev pub now_read : List ℕ → ℕ → List ℕ → Option PatternMode → Reading → Result Reading Found
+now_read file line word None reading = fault file line causes.BadWord word
+now_read file line word (Some mode) reading = Ok (record reading { mode = mode })
+
+abbrev pub mode_line : List ℕ → ℕ → List ℕ → List (List ℕ) → Reading → Result Reading Found
+mode_line file line name (word ∷ []) reading = now_read file line word (mode_named word) reading
+mode_line file line name given reading = fault file line causes.BadWord name
+
 -- ---- a directive, and a file that it names
 
 -- the word of a file that it names, and what was read by then
@@ -83,6 +93,7 @@ apart file line name given reading directives.SecDefaultAction = on (default_lin
 apart file line name given reading directives.Include = include_line file line name given reading
 apart file line name given reading directives.SecRuleRemoveById = on (ids_line file line name given reading)
 apart file line name given reading directives.SecRuleRemoveByTag = on (tag_line file line name given reading)
+apart file line name given reading directives.SecPatternMode = on (mode_line file line name given reading)
 apart file line name given reading (directives.Set setting) = on (setting_line file line name setting given reading)
 apart file line name given reading other = Ok (None, reading)
 

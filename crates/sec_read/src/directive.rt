@@ -14,12 +14,13 @@ pub enum Directive {
     Include,
     SecRuleRemoveById,
     SecRuleRemoveByTag,
+    SecPatternMode,
     Set(Setting),
     // Published rule sets carry it, and it has no effect.
     Accepted,
 }
 
-const DIRECTIVES: [Directive; 12] = [
+const DIRECTIVES: [Directive; 13] = [
     Directive::SecRule,
     Directive::SecAction,
     Directive::SecMarker,
@@ -27,6 +28,7 @@ const DIRECTIVES: [Directive; 12] = [
     Directive::Include,
     Directive::SecRuleRemoveById,
     Directive::SecRuleRemoveByTag,
+    Directive::SecPatternMode,
     Directive::Set(Setting::Engine),
     Directive::Set(Setting::RequestBodyAccess),
     Directive::Set(Setting::RequestBodyLimit),
@@ -98,6 +100,7 @@ impl Directive {
             Directive::Include => b"Include",
             Directive::SecRuleRemoveById => b"SecRuleRemoveById",
             Directive::SecRuleRemoveByTag => b"SecRuleRemoveByTag",
+            Directive::SecPatternMode => b"SecPatternMode",
             Directive::Set(Setting::Engine) => b"SecRuleEngine",
             Directive::Set(Setting::RequestBodyAccess) => b"SecRequestBodyAccess",
             Directive::Set(Setting::RequestBodyLimit) => b"SecRequestBodyLimit",

@@ -17,6 +17,7 @@ mod faults;
 mod files;
 mod items;
 mod links;
+mod modes;
 mod names;
 mod operators;
 mod reading;

@@ -5,12 +5,14 @@ ghost use Rattle.waf_io.specs.Counts.{Rose};
 ghost use Rattle.sec_read.specs.Links.{acting, action_line, acts_of, always, first_link, further_link, link_of, linked, rule_line, rule_of, rule_with, stand_of, tested, with_rule};
 ghost use Rattle.sec_parts.specs.Operators.{operator_of};
 ghost use Rattle.sec_read.specs.Items.{has_id, is_full};
+ghost use Rattle.sec_read.specs.Modes.{kind_in};
 ghost use Rattle.sec_read.specs.Places.{operator_file, rule_file};
 ghost use Rattle.sec_read.specs.Results.{Answers, Halts, IsFault, IsSpot, Tells, WhereUnread, is_unread};
 
 use crate::at::At;
 use crate::defaults::PhaseDefault;
 use crate::faults::{Cause, Halt};
+use crate::modes::PatternMode;
 use crate::operators::read_operator_at;
 use crate::reading::{Reading, Unfinished};
 use sec_ast::{Disrupt, Link, Op, OpKind, Place, Rule, Target};
@@ -312,7 +314,8 @@ fn read_acting(
     let (operator, total) = stated;
     let acts = at.placed(alloc, read_acts(alloc, stand_now(reading), actions))?;
     reading.total = total;
-    add_link(alloc, at, condition_of(targets, operator), acts, reading)
+    let condition = condition_of(reading.mode, targets, operator);
+    add_link(alloc, at, condition, acts, reading)
 }
 
 #[tactic(auto, unfolding(crate::specs::Links::rule_with))]
@@ -340,14 +343,25 @@ fn read_rule<F: Files>(
     read_acting(alloc, at, targets, stated, actions, reading)
 }
 
-fn condition_of(targets: Seq<Target>, operator: Operator) -> Condition
-    ensures { result ≡ tested targets operator }
+fn condition_of(mode: PatternMode, targets: Seq<Target>, operator: Operator) -> Condition
+    ensures { result ≡ tested mode targets operator }
 {
     Condition {
         targets,
         always: false,
         negated: operator.negated,
-        op: operator.op,
+        op: in_mode(mode, operator.op),
+    }
+}
+
+// What an operator is in a mode.
+fn in_mode(mode: PatternMode, op: Op) -> Op
+    ensures { result ≡ record op { kind = kind_in mode op.kind } }
+{
+    Op {
+        kind: mode.kind_of(op.kind),
+        text: op.text,
+        words: op.words,
     }
 }
 

@@ -4,6 +4,7 @@ ghost use Rattle.sec_read.specs.Listing.{nothing_read};
 
 use crate::defaults::Defaults;
 use crate::items::Items;
+use crate::modes::PatternMode;
 use crate::removals::Removals;
 use crate::settings::Settings;
 use sec_ast::Rule;
@@ -17,13 +18,14 @@ pub struct Unfinished {
 }
 
 // What was read so far: the items, a rule that waits for its next link, the defaults of each phase,
-// the settings, what is to be removed, and how many bytes of texts.
+// the settings, how patterns are read, what is to be removed, and how many bytes of texts.
 #[derive(Drop)]
 pub struct Reading {
     pub items: Items,
     pub unfinished: Option<Unfinished>,
     pub defaults: Defaults,
     pub settings: Settings,
+    pub mode: PatternMode,
     pub removals: Removals,
     pub total: u64,
 }
@@ -38,6 +40,7 @@ impl Reading {
             unfinished: None,
             defaults: Defaults::first(),
             settings: Settings::first(),
+            mode: PatternMode::Unicode,
             removals: Removals::none(alloc),
             total: 0,
         }

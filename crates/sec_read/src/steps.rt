@@ -2,13 +2,14 @@ ghost use Rattle.std.specs.Prelude.{◌≡◌, ◌≤◌, IfErr, IfSome, Some, t
 ghost use Rattle.waf_io.specs.Counts.{Rose};
 ghost use Rattle.sec_read.specs.Places.{directive_file, named_file};
 ghost use Rattle.sec_read.specs.Results.{Answers, IsSpot, Tells, WhereUnread, is_unread};
-ghost use Rattle.sec_read.specs.Steps.{apart, default_line, directive, ids_line, include_line, marker_line, obeyed, on, setting_line, tag_line, unless_open, with_defaults};
+ghost use Rattle.sec_read.specs.Steps.{apart, default_line, directive, ids_line, include_line, marker_line, mode_line, obeyed, on, setting_line, tag_line, unless_open, with_defaults};
 
 use crate::at::At;
 use crate::defaults::PhaseDefault;
 use crate::directive::{Directive, is_left_out_name};
 use crate::faults::{Cause, Halt};
 use crate::links::{read_action_line, read_rule_line};
+use crate::modes::PatternMode;
 use crate::reading::Reading;
 use crate::removals::Removals;
 use crate::settings::Setting;
@@ -147,6 +148,29 @@ fn read_setting_line(
     }
 }
 
+fn read_mode_line(
+    alloc: Global,
+    at: At<'_>,
+    name: &[u8],
+    given: &[Bytes],
+    reading: &mut Reading,
+) -> Result<(), Halt>
+    ensures { Answers (λ _. reading.new) result
+        (mode_line at.entry.file.now at.entry.line name.now given.now reading.old) }
+{
+    match given {
+        [word] => {
+            let word = word.as_slice();
+            let Some(mode) = PatternMode::named(word) else {
+                return Err(at.fault(alloc, Cause::BadWord, word));
+            };
+            reading.mode = mode;
+            Ok(())
+        }
+        _ => Err(at.fault(alloc, Cause::BadWord, name)),
+    }
+}
+
 fn read_include_line(
     alloc: Global,
     at: At<'_>,
@@ -191,6 +215,10 @@ fn read_apart(
         }
         Directive::SecRuleRemoveByTag => {
             read_tag_line(alloc, at, name, given, reading)?;
+            Ok(None)
+        }
+        Directive::SecPatternMode => {
+            read_mode_line(alloc, at, name, given, reading)?;
             Ok(None)
         }
         Directive::Set(setting) => {

@@ -75,6 +75,7 @@ taken_from : (kind : OpKind) (text : List Part) (words given : List (List ℕ)) 
 taken_from kinds.Pm text words given name kind is are = (is.0, are)
 taken_from kinds.IpMatch text words given name kind is are = is
 taken_from kinds.Rx text words given name kind is are = absurd kind
+taken_from kinds.RxBytes text words given name kind is are = absurd kind
 taken_from kinds.Streq text words given name kind is are = absurd kind
 taken_from kinds.Contains text words given name kind is are = absurd kind
 taken_from kinds.BeginsWith text words given name kind is are = absurd kind
@@ -119,6 +120,7 @@ no_bad (word ∷ words) h =
 good_if : (kind : OpKind) (text : List Part) (words : List (List ℕ)) → StatedArgument kind text words → (if is_of_addresses kind then first_bad words else None) ≡ None → GoodArgument kind text words
 good_if kinds.IpMatch text words is none = (is, no_bad words none)
 good_if kinds.Rx text words is none = is
+good_if kinds.RxBytes text words is none = is
 good_if kinds.Pm text words is none = is
 good_if kinds.Streq text words is none = is
 good_if kinds.Contains text words is none = is

@@ -19,6 +19,7 @@ use Rattle.sec_parts.specs.Operators.{operator_of}
 use Rattle.sec_parts.specs.Targets.{targets_of}
 use Rattle.sec_read.specs.declared.directive.Directive.TheVariants as directives
 use Rattle.sec_read.specs.declared.links.Condition.{Condition}
+use Rattle.sec_read.specs.declared.modes.PatternMode.TheVariants as modes
 use Rattle.sec_read.specs.declared.reading.Reading.{Reading}
 use Rattle.sec_read.specs.Directives.{directive_named, is_accepted, is_left_out}
 use Rattle.sec_read.specs.FileWords.{Named}
@@ -76,22 +77,22 @@ module _ (files : Named) (file : List ℕ) (targets : (list : List Target) → A
   unfolding operator_at
   operator_is n total negated op is are = rw (operators negated op is, unless_addresses op.kind op.words are) refl
 
-  rule_is : (n : ℕ) (link : Link) (actions : Option (List ℕ)) (acts : Acts) (reading : Reading) → IsTested link → acts_of (stand_of reading.unfinished) actions ≡ Ok acts
+  rule_is : (n : ℕ) (link : Link) (actions : Option (List ℕ)) (acts : Acts) (reading : Reading) → reading.mode ≡ modes.Unicode → IsTested link → acts_of (stand_of reading.unfinished) actions ≡ Ok acts
       → rule_with files file n (targets_text link.targets) (operator_text link.negated link.op) actions reading
       ≡ linked file n (record { targets = link.targets; always = false; negated = link.negated; op = link.op }) acts reading.unfinished reading
   unfolding rule_with
-  rule_is n link actions acts reading is says = rw (targets link.targets is.targets, operator_is n reading.total link.negated link.op is.operator is.addresses, says) refl
+  rule_is n link actions acts reading mode is says = rw (targets link.targets is.targets, operator_is n reading.total link.negated link.op is.operator is.addresses, says, mode) refl
 
-  rule_line_is : (n : ℕ) (link : Link) (actions : List ℕ) (acts : Acts) (reading : Reading) → IsTested link → Tells (stand_of reading.unfinished) actions acts
+  rule_line_is : (n : ℕ) (link : Link) (actions : List ℕ) (acts : Acts) (reading : Reading) → reading.mode ≡ modes.Unicode → IsTested link → Tells (stand_of reading.unfinished) actions acts
       → directive files file n (codes "SecRule" ∷ condition_words link actions) reading
       ≡ on (linked file n (record { targets = link.targets; always = false; negated = link.negated; op = link.op }) acts reading.unfinished reading)
   unfolding is_left_out is_accepted directive_named
-  rule_line_is n link [] acts reading is says =
+  rule_line_is n link [] acts reading mode is says =
       by_name files file n (codes "SecRule") (condition_words link []) directives.SecRule reading refl refl
-      ∙ ap on (rule_is n link None acts reading is (ap (λ (a : Acts). Ok a) (sym says.1)))
-  rule_line_is n link (b ∷ actions) acts reading is says =
+      ∙ ap on (rule_is n link None acts reading mode is (ap (λ (a : Acts). Ok a) (sym says.1)))
+  rule_line_is n link (b ∷ actions) acts reading mode is says =
       by_name files file n (codes "SecRule") (condition_words link (b ∷ actions)) directives.SecRule reading refl refl
-      ∙ ap on (rule_is n link (Some (b ∷ actions)) acts reading is says)
+      ∙ ap on (rule_is n link (Some (b ∷ actions)) acts reading mode is says)
 
   told : (stand : Stand) (actions : List ℕ) (acts : Acts) → Tells stand actions acts → actions_in stand (action_word actions) ≡ Ok acts
   told stand [] acts says = ap (λ (s : Stand). actions_in s (action_word [])) says.0 ∙ nothing ∙ ap (λ (a : Acts). Ok a) (sym says.1)
@@ -104,9 +105,9 @@ module _ (files : Named) (file : List ℕ) (targets : (list : List Target) → A
       by_name files file n (codes "SecAction") (action_word actions ∷ []) directives.SecAction reading refl refl
       ∙ rw (told (stand_of reading.unfinished) actions acts says) refl
 
-  pub link_does : (n : ℕ) (link : Link) (actions : List ℕ) (acts : Acts) (reading : Reading) → IsCondition link.always link → Tells (stand_of reading.unfinished) actions acts
+  pub link_does : (n : ℕ) (link : Link) (actions : List ℕ) (acts : Acts) (reading : Reading) → reading.mode ≡ modes.Unicode → IsCondition link.always link → Tells (stand_of reading.unfinished) actions acts
       → directive files file n ((link_directive link actions).0 ∷ (link_directive link actions).1) reading ≡ on (linked file n (condition_of link) acts reading.unfinished reading)
-  link_does n link actions acts reading is says = by_kind link.always refl
+  link_does n link actions acts reading mode is says = by_kind link.always refl
     where
       by_kind : (b : Bool) → link.always ≡ b → directive files file n ((link_directive link actions).0 ∷ (link_directive link actions).1) reading ≡ on (linked file n (condition_of link) acts reading.unfinished reading)
       by_kind true kind =
@@ -115,5 +116,5 @@ module _ (files : Named) (file : List ℕ) (targets : (list : List Target) → A
           ∙ ap (λ (c : Condition). on (linked file n c acts reading.unfinished reading)) (sym (untested link kind (subst (λ (b : Bool). IsCondition b link) kind is)))
       by_kind false kind =
           ap (λ (d : Directive). directive files file n (d.0 ∷ d.1) reading) (rule_directive_is link actions kind)
-          ∙ rule_line_is n link actions acts reading (subst (λ (b : Bool). IsCondition b link) kind is) says
+          ∙ rule_line_is n link actions acts reading mode (subst (λ (b : Bool). IsCondition b link) kind is) says
           ∙ ap (λ (c : Condition). on (linked file n c acts reading.unfinished reading)) (sym (tested link kind))

@@ -19,6 +19,9 @@ use Rattle.sec_parts.specs.Operators as read
 use Rattle.sec_parts.specs.Phrases.{addresses_of, phrases_of, ranges_of}
 use Rattle.sec_parts.specs.Results.{refused}
 use Rattle.sec_parts.specs.Texts.{skip_blanks}
+use Rattle.sec_read.specs.declared.modes.PatternMode.{PatternMode}
+use Rattle.sec_read.specs.declared.modes.PatternMode.TheVariants as modes
+use Rattle.sec_read.specs.Modes.{kind_in}
 use Rattle.sec_read.specs.Operators.{is_address_word, is_of_addresses}
 use Rattle.sec_round_trip.specs.Lines.{is_printed}
 use Rattle.sec_round_trip.specs.Macros.{IsMacro}
@@ -37,6 +40,7 @@ use Rattle.sec_round_trip.proofs.WordReads.{StopsAt, after_front, phrases_give, 
 
 abbrev pub StatedArgument : OpKind → List Part → List (List ℕ) → Type 0
 StatedArgument kinds.Rx text words = IsLiteral text × (words ≡ []) × IsClean (macro_text text)
+StatedArgument kinds.RxBytes text words = IsLiteral text × (words ≡ []) × IsClean (macro_text text)
 StatedArgument kinds.Pm text words = (text ≡ []) × AllByRecursion IsPhrase words
 StatedArgument kinds.IpMatch text words = text ≡ []
 StatedArgument kinds.ValidateByteRange text words = (text ≡ []) × AllByRecursion IsRange words
@@ -103,6 +107,7 @@ module _ (macros : (text : List ℕ) (macro : List Part) → macro_of text ≡ O
 
   argument_gives : (negated : Bool) (argument : List ℕ) (kind : OpKind) → IsClean argument → Given IsStated (with_argument negated argument kind)
   argument_gives negated argument kinds.Rx is = ((literal_is argument, refl, subst IsClean (sym (literal_text argument)) is), tt)
+  argument_gives negated argument kinds.RxBytes is = ((literal_is argument, refl, subst IsClean (sym (literal_text argument)) is), tt)
   argument_gives negated argument kinds.Pm is =
       given_bind (AllByRecursion IsPhrase) IsStated (phrases_of argument) (λ words. Ok (read.with_words negated kinds.Pm words)) (phrases_give argument is.fine.bytes) (λ words are. ((refl, are), tt))
   argument_gives negated argument kinds.Streq is = expanded_gives negated kinds.Streq argument is (λ macro are. ((are.0, refl, are.1), tt))
@@ -232,6 +237,7 @@ nothing_clean text none = subst (λ (m : List Part). IsClean (macro_text m)) (sy
 
 pub argument_clean : (kind : OpKind) (text : List Part) (words : List (List ℕ)) → GoodArgument kind text words → IsClean (argument_text kind text words)
 argument_clean kinds.Rx text words is = is.2
+argument_clean kinds.RxBytes text words is = is.2
 argument_clean kinds.Pm text words is = joined_clean 32 (map phrase_text words) refl (phrases_graph words is.1)
 argument_clean kinds.Streq text words is = is.2
 argument_clean kinds.Contains text words is = is.2
@@ -252,6 +258,7 @@ argument_clean kinds.NoMatch text words is = nothing_clean text is.0
 
 argument_is : (kind : OpKind) (text : List Part) (words : List (List ℕ)) → GoodArgument kind text words → IsArgument kind text words
 argument_is kinds.Rx text words is = (is.0, is.1)
+argument_is kinds.RxBytes text words is = (is.0, is.1)
 argument_is kinds.Pm text words is = is
 argument_is kinds.Streq text words is = (is.0, is.1)
 argument_is kinds.Contains text words is = (is.0, is.1)
@@ -273,12 +280,39 @@ argument_is kinds.NoMatch text words is = is
 abbrev pub IsGood : Op → Type 0
 IsGood op = GoodArgument op.kind op.text op.words
 
+-- whatever the mode in which its line is read
+in_mode : (mode : PatternMode) (kind : OpKind) (text : List Part) (words : List (List ℕ)) → GoodArgument kind text words → GoodArgument (kind_in mode kind) text words
+in_mode modes.Unicode kind text words is = is
+in_mode modes.Bytes kinds.Rx text words is = is
+in_mode modes.Bytes kinds.RxBytes text words is = is
+in_mode modes.Bytes kinds.Pm text words is = is
+in_mode modes.Bytes kinds.Streq text words is = is
+in_mode modes.Bytes kinds.Contains text words is = is
+in_mode modes.Bytes kinds.BeginsWith text words is = is
+in_mode modes.Bytes kinds.EndsWith text words is = is
+in_mode modes.Bytes kinds.Within text words is = is
+in_mode modes.Bytes kinds.Eq text words is = is
+in_mode modes.Bytes kinds.Ge text words is = is
+in_mode modes.Bytes kinds.Gt text words is = is
+in_mode modes.Bytes kinds.Le text words is = is
+in_mode modes.Bytes kinds.Lt text words is = is
+in_mode modes.Bytes kinds.IpMatch text words is = is
+in_mode modes.Bytes kinds.ValidateByteRange text words is = is
+in_mode modes.Bytes kinds.ValidateUrlEncoding text words is = is
+in_mode modes.Bytes kinds.ValidateUtf8Encoding text words is = is
+in_mode modes.Bytes kinds.UnconditionalMatch text words is = is
+in_mode modes.Bytes kinds.NoMatch text words is = is
+
+pub good_in_mode : (mode : PatternMode) (op : Op) → IsGood op → IsGood (record op { kind = kind_in mode op.kind })
+good_in_mode mode op is = in_mode mode op.kind op.text op.words is
+
 pub good_operator : (op : Op) → IsGood op → IsOperator op
 good_operator op is = (argument_is op.kind op.text op.words is, (argument_clean op.kind op.text op.words is).blank)
 
 good_words : (kind : OpKind) (text : List Part) (words : List (List ℕ)) → GoodArgument kind text words → is_of_addresses kind ≡ true → AllByRecursion (λ word. is_address_word word ≡ true) words
 good_words kinds.IpMatch text words is h = is.1
 good_words kinds.Rx text words is h = absurd (false≢true h)
+good_words kinds.RxBytes text words is h = absurd (false≢true h)
 good_words kinds.Pm text words is h = absurd (false≢true h)
 good_words kinds.Streq text words is h = absurd (false≢true h)
 good_words kinds.Contains text words is h = absurd (false≢true h)

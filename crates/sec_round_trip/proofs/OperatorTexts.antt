@@ -30,7 +30,7 @@ argument_is : (argument : List ℕ) → begins_with_blank argument ≡ false →
 argument_is [] h = refl
 argument_is (b ∷ argument) h = ap (λ n. drop (1 + n) (32 ∷ b ∷ argument)) (no_prefix is_blank b argument h)
 
--- ---- the pattern of rx
+-- ---- the pattern of rx and of rxBytes
 
 literal_is : (text : List Part) → IsLiteral text → literal (macro_text text) ≡ text
 unfolding macro_text
@@ -54,6 +54,7 @@ module _ (macros : (macro : List Part) → IsMacro macro → macro_of (macro_tex
   argued : (negated : Bool) (kind : OpKind) (text : List Part) (words : List (List ℕ)) → IsArgument kind text words
       → with_argument negated (argument_text kind text words) kind ≡ Ok (whole negated kind text words)
   argued negated kinds.Rx text words is = rw (is.1, literal_is text is.0) refl
+  argued negated kinds.RxBytes text words is = rw (is.1, literal_is text is.0) refl
   argued negated kinds.Pm text words is = rw (is.0, phrases words is.1) refl
   argued negated kinds.Streq text words is = rw (is.1, macros text is.0) refl
   argued negated kinds.Contains text words is = rw (is.1, macros text is.0) refl

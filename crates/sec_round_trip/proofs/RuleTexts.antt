@@ -13,6 +13,7 @@ use Rattle.sec_parts.specs.declared.kinds.Stand.{Stand}
 use Rattle.sec_parts.specs.declared.kinds.Stand.TheVariants as stands
 use Rattle.sec_parts.specs.Acts.{actions_in, no_acts}
 use Rattle.sec_read.specs.declared.defaults.PhaseDefault.{PhaseDefault}
+use Rattle.sec_read.specs.declared.modes.PatternMode.TheVariants as modes
 use Rattle.sec_read.specs.declared.reading.Reading.{Reading}
 use Rattle.sec_read.specs.declared.reading.Unfinished.{Unfinished}
 use Rattle.sec_read.specs.declared.settings.Settings.{Settings}
@@ -139,7 +140,7 @@ rule_made file n rule link follows =
 -- ---- links one after the other
 
 module _ (files : Named) (file : List ℕ) (settings : Settings) (total : ℕ)
-    (link_does : (n : ℕ) (link : Link) (actions : List ℕ) (acts : Acts) (reading : Reading) → IsCondition link.always link → Tells (stand_of reading.unfinished) actions acts
+    (link_does : (n : ℕ) (link : Link) (actions : List ℕ) (acts : Acts) (reading : Reading) → reading.mode ≡ modes.Unicode → IsCondition link.always link → Tells (stand_of reading.unfinished) actions acts
     → directive files file n ((link_directive link actions).0 ∷ (link_directive link actions).1) reading ≡ on (linked file n (condition_of link) acts reading.unfinished reading))
     (first : (rule : Rule) (link : Link) (follows : Bool) → IsHead rule → IsTail link → actions_in stands.First (join_with_byte 44 (rule_pieces rule ++ link_pieces link follows)) ≡ Ok (with_link link follows (of_rule rule)))
     (later : (link : Link) (follows : Bool) → IsTail link → has_pieces (link_pieces link follows) ≡ true → actions_in stands.Later (join_with_byte 44 (link_pieces link follows)) ≡ Ok (with_link link follows no_acts)) where
@@ -157,7 +158,7 @@ module _ (files : Named) (file : List ℕ) (settings : Settings) (total : ℕ)
   first_does n rule link follows list head is fresh room =
       let actions : List ℕ = join_with_byte 44 (rule_pieces rule ++ link_pieces link follows) in
       let acts : Acts = with_link link follows (of_rule rule) in
-      link_does n link actions acts (at list None) is.0 (tells_some stands.First actions acts (head_some rule (link_pieces link follows)) (first rule link follows head is.1))
+      link_does n link actions acts (at list None) refl is.0 (tells_some stands.First actions acts (head_some rule (link_pieces link follows)) (first rule link follows head is.1))
       ∙ ap on (first_is n rule link follows list fresh room)
 
   -- those behind it
@@ -178,7 +179,7 @@ module _ (files : Named) (file : List ℕ) (settings : Settings) (total : ℕ)
   further_does n line start rule done link follows list is room =
       let begun : Reading = at list (Some (record { rule = with_links file start rule done; line = line })) in
       let acts : Acts = with_link link follows no_acts in
-      link_does n link (join_with_byte 44 (link_pieces link follows)) acts begun is.0 (later_tells link follows is.1)
+      link_does n link (join_with_byte 44 (link_pieces link follows)) acts begun refl is.0 (later_tells link follows is.1)
       ∙ ap on (further_is n (with_links file start rule done) link follows begun (lt-leb 32 (length done) (omega (arith, room))))
 
   all_further : (n line start : ℕ) (rule : Rule) (done : List Link) (link : Link) (links : List Link) (list : List Item) → AllByRecursion IsLink (link ∷ links) → length done + length (link ∷ links) ≤ 32

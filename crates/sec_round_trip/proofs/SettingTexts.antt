@@ -10,6 +10,7 @@ use Rattle.sec_ast.specs.declared.settings.Engine.{Engine}
 use Rattle.sec_parts.specs.Changes.{switch_named}
 use Rattle.sec_parts.specs.Numbers.{number_in}
 use Rattle.sec_read.specs.declared.directive.Directive.TheVariants as directives
+use Rattle.sec_read.specs.declared.modes.PatternMode.TheVariants as modes
 use Rattle.sec_read.specs.declared.reading.Reading.{Reading}
 use Rattle.sec_read.specs.declared.reading.Unfinished.{Unfinished}
 use Rattle.sec_read.specs.declared.settings.Setting.{Setting}
@@ -24,10 +25,10 @@ use Rattle.sec_round_trip.specs.Directives.{settings_of}
 use Rattle.sec_round_trip.proofs.DecimalTexts.{number_again}
 use Rattle.sec_round_trip.proofs.LineSteps.{Do, Does, by_name}
 
--- what was read of a printed text, in which no directive sets defaults or removes rules
+-- what was read of a printed text, in which no directive sets defaults or a mode, or removes rules
 abbrev pub so_far : Settings → ℕ → List Item → Option Unfinished → Reading
 so_far settings total list unfinished =
-    record { items = list; unfinished = unfinished; defaults = first_defaults; settings = settings; removals = no_removals; total = total }
+    record { items = list; unfinished = unfinished; defaults = first_defaults; settings = settings; mode = modes.Unicode; removals = no_removals; total = total }
 
 -- those of a listing
 abbrev pub settings_in : Listing → Settings

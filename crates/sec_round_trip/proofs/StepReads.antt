@@ -7,6 +7,7 @@ use Rattle.sec_ast.specs.PrintMacros.{macro_text}
 use Rattle.sec_ast.specs.Settings.{engine_named}
 use Rattle.sec_ast.specs.Variable.{variable_name}
 use Rattle.sec_ast.specs.declared.macros.Part.{Part}
+use Rattle.sec_ast.specs.declared.operator.Op.{Op}
 use Rattle.sec_ast.specs.declared.operator.OpKind.{OpKind}
 use Rattle.sec_ast.specs.declared.operator.OpKind.TheVariants as kinds
 use Rattle.sec_ast.specs.declared.settings.Engine.{Engine}
@@ -26,6 +27,7 @@ use Rattle.sec_parts.specs.Targets.{targets_of}
 use Rattle.sec_read.specs.declared.directive.Directive.{Directive}
 use Rattle.sec_read.specs.declared.directive.Directive.TheVariants as directives
 use Rattle.sec_read.specs.declared.faults.Found.{Found}
+use Rattle.sec_read.specs.declared.modes.PatternMode.{PatternMode}
 use Rattle.sec_read.specs.declared.reading.Reading.{Reading}
 use Rattle.sec_read.specs.declared.reading.Unfinished.{Unfinished}
 use Rattle.sec_read.specs.declared.removals.Removals.{Removals}
@@ -36,10 +38,11 @@ use Rattle.sec_read.specs.Directives.{directive_of, is_left_out}
 use Rattle.sec_read.specs.Faults.{placed}
 use Rattle.sec_read.specs.FileWords.{Named}
 use Rattle.sec_read.specs.Links.{action_line, acting, acts_of, always, linked, rule_line, rule_with, stand_of, tested}
+use Rattle.sec_read.specs.Modes.{kind_in, mode_named}
 use Rattle.sec_read.specs.Operators.{operator_at}
 use Rattle.sec_read.specs.Removals.{with_ids}
 use Rattle.sec_read.specs.Settings.{rejection_named, with_setting}
-use Rattle.sec_read.specs.Steps.{apart, default_line, directive, ids_line, include_line, known, marker_line, now_set, obeyed, on, setting_line, tag_line, unless_open, with_defaults}
+use Rattle.sec_read.specs.Steps.{apart, default_line, directive, ids_line, include_line, known, marker_line, mode_line, now_read, now_set, obeyed, on, setting_line, tag_line, unless_open, with_defaults}
 use Rattle.sec_round_trip.specs.Lines.{is_printed}
 use Rattle.sec_round_trip.specs.Macros.{IsMacro}
 use Rattle.sec_round_trip.specs.Printable.{HoldBytes}
@@ -47,7 +50,7 @@ use Rattle.sec_round_trip.proofs.ActionReads.{IsSaid, Within, actions_give, none
 use Rattle.sec_round_trip.proofs.Alike.{Alike}
 use Rattle.sec_round_trip.proofs.FileReads.{IsGoodWhole, given_placed, operator_at_gives}
 use Rattle.sec_parts.proofs.Given.{Given, given_bind, given_from, given_if}
-use Rattle.sec_round_trip.proofs.OperatorReads.{IsGood, good_addresses, good_operator, good_sound, operator_gives}
+use Rattle.sec_round_trip.proofs.OperatorReads.{IsGood, good_addresses, good_in_mode, good_operator, good_sound, operator_gives}
 use Rattle.sec_round_trip.proofs.Sound.{IsSound}
 use Rattle.sec_round_trip.proofs.StateReads.{GoodCondition, GoodReading, linked_good, marker_good, with_default_good}
 use Rattle.sec_round_trip.proofs.TargetReads.{AreRead, are_targets, targets_give}
@@ -122,6 +125,15 @@ tags_good file line name [] reading good = tt
 tags_good file line name (tag ∷ []) reading good = good
 tags_good file line name (tag ∷ next ∷ more) reading good = tt
 
+mode_set : (file : List ℕ) (line : ℕ) (word : List ℕ) (o : Option PatternMode) (reading : Reading) → GoodReading reading → Given GoodReading (now_read file line word o reading)
+mode_set file line word None reading good = tt
+mode_set file line word (Some mode) reading good = good
+
+mode_good : (file : List ℕ) (line : ℕ) (name : List ℕ) (given : List (List ℕ)) (reading : Reading) → GoodReading reading → Given GoodReading (mode_line file line name given reading)
+mode_good file line name [] reading good = tt
+mode_good file line name (word ∷ []) reading good = mode_set file line word (mode_named word) reading good
+mode_good file line name (word ∷ next ∷ more) reading good = tt
+
 -- a word that names a file, and what was read
 abbrev pub GoodAnswer : Option (List ℕ) × Reading → Type 0
 GoodAnswer x = GoodReading x.1
@@ -156,12 +168,15 @@ module _ (macros : (text : List ℕ) (macro : List Part) → macro_of text ≡ O
 
   module _ (var_printed : (var : Var) → list_all is_printed (variable_name var) ≡ true) (var_backslash : (var : Var) → ends_with_backslash (variable_name var) ≡ false)
       (op_printed : (kind : OpKind) → list_all is_printed (operator_name kind) ≡ true) (op_backslash : (kind : OpKind) → ends_with_backslash (operator_name kind) ≡ false) where
-    tested_good : (targets : List Target) (operator : Operator) → AreRead true targets → IsGood operator.op → GoodCondition (tested targets operator)
-    tested_good targets operator are good = record {
-      tested = λ acts. record { targets = are_targets true targets are; operator = good_operator operator.op good; addresses = good_addresses operator.op good };
-      targets = targets_sound var_printed var_backslash targets are;
-      operator = good_sound op_printed op_backslash operator.negated operator.op good;
-    }
+    tested_good : (mode : PatternMode) (targets : List Target) (operator : Operator) → AreRead true targets → IsGood operator.op → GoodCondition (tested mode targets operator)
+    tested_good mode targets operator are good =
+        let op : Op = record operator.op { kind = kind_in mode operator.op.kind } in
+        let read : IsGood op = good_in_mode mode operator.op good in
+        record {
+          tested = λ acts. record { targets = are_targets true targets are; operator = good_operator op read; addresses = good_addresses op read };
+          targets = targets_sound var_printed var_backslash targets are;
+          operator = good_sound op_printed op_backslash operator.negated op read;
+        }
 
     always_good : GoodCondition always
     always_good = record {
@@ -173,9 +188,9 @@ module _ (macros : (text : List ℕ) (macro : List Part) → macro_of text ≡ O
     acting_good : (file : List ℕ) (line : ℕ) (targets : List Target) (actions : Option (List ℕ)) (reading : Reading) (stated : Operator × ℕ) → AreRead true targets → ((text : List ℕ) → actions ≡ Some text → IsSound text) → IsGoodWhole stated → GoodReading reading
         → Given GoodReading (acting file line targets actions reading stated)
     acting_good file line targets actions reading stated are sound is good =
-        given_bind IsSaid GoodReading (placed file line (acts_of (stand_of reading.unfinished) actions)) (λ acts. linked file line (tested targets stated.0) acts reading.unfinished (record reading { total = stated.1 }))
+        given_bind IsSaid GoodReading (placed file line (acts_of (stand_of reading.unfinished) actions)) (λ acts. linked file line (tested reading.mode targets stated.0) acts reading.unfinished (record reading { total = stated.1 }))
         (given_placed IsSaid file line (acts_of (stand_of reading.unfinished) actions) (acts_good (stand_of reading.unfinished) actions sound))
-        (λ acts so. linked_good file line (tested targets stated.0) acts reading.unfinished (record reading { total = stated.1 }) good.begun (tested_good targets stated.0 are is) so good)
+        (λ acts so. linked_good file line (tested reading.mode targets stated.0) acts reading.unfinished (record reading { total = stated.1 }) good.begun (tested_good reading.mode targets stated.0 are is) so good)
 
     action_good : (file : List ℕ) (line : ℕ) (name : List ℕ) (given : List (List ℕ)) (reading : Reading) → AllByRecursion IsSound given → GoodReading reading → Given GoodReading (action_line file line name given reading)
     action_good file line name [] reading are good = tt
@@ -222,6 +237,7 @@ module _ (macros : (text : List ℕ) (macro : List Part) → macro_of text ≡ O
       apart_good file line name given reading directives.Include are none good = included_good file line name given reading good
       apart_good file line name given reading directives.SecRuleRemoveById are none good = on_good (ids_line file line name given reading) (ids_good file line name given reading good)
       apart_good file line name given reading directives.SecRuleRemoveByTag are none good = on_good (tag_line file line name given reading) (tags_good file line name given reading good)
+      apart_good file line name given reading directives.SecPatternMode are none good = on_good (mode_line file line name given reading) (mode_good file line name given reading good)
       apart_good file line name given reading (directives.Set setting) are none good = on_good (setting_line file line name setting given reading) (set_good file line name setting given reading good)
       apart_good file line name given reading directives.Accepted are none good = good
 
@@ -238,6 +254,7 @@ module _ (macros : (text : List ℕ) (macro : List Part) → macro_of text ≡ O
       obeyed_good file line name given reading directives.Include are good = other_good file line name given reading directives.Include are good
       obeyed_good file line name given reading directives.SecRuleRemoveById are good = other_good file line name given reading directives.SecRuleRemoveById are good
       obeyed_good file line name given reading directives.SecRuleRemoveByTag are good = other_good file line name given reading directives.SecRuleRemoveByTag are good
+      obeyed_good file line name given reading directives.SecPatternMode are good = other_good file line name given reading directives.SecPatternMode are good
       obeyed_good file line name given reading (directives.Set setting) are good = other_good file line name given reading (directives.Set setting) are good
       obeyed_good file line name given reading directives.Accepted are good = other_good file line name given reading directives.Accepted are good
 

@@ -37,6 +37,7 @@ IsLiteral other = ⊥
 
 abbrev pub IsArgument : OpKind → List Part → List (List ℕ) → Type 0
 IsArgument kinds.Rx text words = IsLiteral text × (words ≡ [])
+IsArgument kinds.RxBytes text words = IsLiteral text × (words ≡ [])
 IsArgument kinds.Pm text words = (text ≡ []) × AllByRecursion IsPhrase words
 IsArgument kinds.IpMatch text words = (text ≡ []) × AllByRecursion IsAddress words
 IsArgument kinds.ValidateByteRange text words = (text ≡ []) × AllByRecursion IsRange words

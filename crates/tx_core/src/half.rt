@@ -4,10 +4,11 @@ ghost use Rattle.sec_eval.specs.Counting.{rules_in};
 ghost use Rattle.sec_meaning.specs.declared.phase_number.TheConstants.{REQUEST_HEADERS, REQUEST_BODY, RESPONSE_HEADERS, RESPONSE_BODY, LOGGING};
 ghost use Rattle.tx_core.specs.Halves.{BeginsAs, EndsAs, RetiresAs};
 
-use crate::phases::{judge_response, last_lines, two_phases};
+use crate::RulesInUse;
+use crate::phases::{judge_response, last_lines, retired_lines, two_phases};
 use sec_ast::{LogLine, Verdict};
 use sec_compile::Ruleset;
-use sec_eval::State;
+use sec_eval::{Askers, State};
 use sec_meaning::phase_number::{REQUEST_BODY, REQUEST_HEADERS};
 use std::alloc::Global;
 use std::marker::Model;
@@ -88,10 +89,38 @@ pub fn begin<L: Ledger>(
         + (rules_in REQUEST_HEADERS (arc_value rules).items + rules_in REQUEST_BODY (arc_value rules).items
         + rules_in LOGGING (arc_value rules).items) }
 {
+    let mut in_use = match RulesInUse::new(alloc, &rules) {
+        Ok(in_use) => in_use,
+        Err(NoMemory) => {
+            drop(request);
+            return Err(NoMemory);
+        }
+    };
+    let begun = in_use.begin(alloc, generation, request, steps);
+    drop(in_use);
+    begun
+}
+
+/// Judges a request by a rule set, of which these are the askers.
+pub(crate) fn begin_by<L: Ledger>(
+    alloc: Global,
+    rules: Arc<Ruleset, Global>,
+    askers: &mut Askers<'_>,
+    generation: u64,
+    request: Request,
+    steps: &mut Steps<L>,
+) -> Result<Begun, NoMemory>
+    requires { askers.old ≡ arc_value rules }
+    ensures begins { IfOk result (λ begun. BeginsAs (arc_value rules) generation request begun) }
+    ensures most { steps.new ≤ steps.old
+        + (rules_in REQUEST_HEADERS (arc_value rules).items + rules_in REQUEST_BODY (arc_value rules).items
+        + rules_in LOGGING (arc_value rules).items) }
+    ensures same { askers.new ≡ askers.old }
+{
     let mut state = State::start(alloc, &rules, request)?;
     match two_phases(
         alloc,
-        &rules,
+        askers,
         REQUEST_HEADERS,
         REQUEST_BODY,
         &mut state,
@@ -107,7 +136,7 @@ pub fn begin<L: Ledger>(
             Ok(Begun::Goes { half, lines })
         }
         Ok(Some(verdict)) => {
-            let lines = last_lines(alloc, &rules, &mut state, steps);
+            let lines = last_lines(alloc, askers, &mut state, steps);
             drop(state);
             Ok(Begun::Interrupted {
                 verdict,
@@ -158,7 +187,7 @@ pub fn retire<L: Ledger>(
         mut state,
         ..
     } = half;
-    let lines = last_lines(alloc, &rules, &mut state, steps);
+    let lines = retired_lines(alloc, &rules, &mut state, steps);
     drop(state);
     lines
 }

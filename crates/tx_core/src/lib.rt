@@ -7,10 +7,12 @@
 #![tactic(auto)]
 
 mod half;
+mod in_use;
 mod laws;
 mod phases;
 
 pub use half::{Begun, Ended, Half, begin, finish, retire};
+pub use in_use::RulesInUse;
 pub use laws::{
     judgements_come_in_halves, lines_stay_in_front, logging_may_be_empty, requests_stay,
 };

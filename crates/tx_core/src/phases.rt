@@ -8,7 +8,7 @@ ghost use Rattle.tx_core.specs.Later.{FollowsAs};
 use crate::Ended;
 use sec_ast::{LogLine, Verdict};
 use sec_compile::Ruleset;
-use sec_eval::{Flow, State, run_phase};
+use sec_eval::{Askers, Flow, State, run_phase};
 use sec_meaning::phase_number::{LOGGING, RESPONSE_BODY, RESPONSE_HEADERS};
 use std::alloc::Global;
 use std::sync::ledger::Ledger;
@@ -18,19 +18,20 @@ use web_parts::Response;
 /// Runs two phases, the second of them where the first does not interrupt.
 pub(crate) fn two_phases<L: Ledger>(
     alloc: Global,
-    rules: &Ruleset,
+    askers: &mut Askers<'_>,
     one: u8,
     other: u8,
     state: &mut State,
     steps: &mut Steps<L>,
 ) -> Result<Option<Verdict>, NoMemory>
-    ensures verdict { IfOk result (λ verdict. verdict ≡ (two_phases rules.now one other state.old).verdict) }
-    ensures state { OnOk result (state.new ≡ (two_phases rules.now one other state.old).state) }
-    ensures most { steps.new ≤ steps.old + (rules_in one rules.now.items + rules_in other rules.now.items) }
+    ensures verdict { IfOk result (λ verdict. verdict ≡ (two_phases askers.old one other state.old).verdict) }
+    ensures state { OnOk result (state.new ≡ (two_phases askers.old one other state.old).state) }
+    ensures most { steps.new ≤ steps.old + (rules_in one askers.old.items + rules_in other askers.old.items) }
+    ensures same { askers.new ≡ askers.old }
 {
-    match run_phase(alloc, rules, one, state, steps)? {
+    match run_phase(alloc, askers, one, state, steps)? {
         Flow::Interrupted(verdict) => Ok(Some(verdict)),
-        Flow::Goes => match run_phase(alloc, rules, other, state, steps)? {
+        Flow::Goes => match run_phase(alloc, askers, other, state, steps)? {
             Flow::Interrupted(verdict) => Ok(Some(verdict)),
             Flow::Goes => Ok(None),
         },
@@ -40,6 +41,21 @@ pub(crate) fn two_phases<L: Ledger>(
 /// Runs the logging phase, which ends a transaction, and takes the lines that stand then.
 pub(crate) fn last_lines<L: Ledger>(
     alloc: Global,
+    askers: &mut Askers<'_>,
+    state: &mut State,
+    steps: &mut Steps<L>,
+) -> Result<Seq<LogLine>, NoMemory>
+    ensures lines { IfOk result (λ lines. lines ≡ (phase askers.old LOGGING state.old).state.lines) }
+    ensures most { steps.new ≤ steps.old + rules_in LOGGING askers.old.items }
+    ensures same { askers.new ≡ askers.old }
+{
+    run_phase(alloc, askers, LOGGING, state, steps)?;
+    Ok(state.take_lines(alloc))
+}
+
+/// Runs the logging phase of a half, and takes its lines.
+pub(crate) fn retired_lines<L: Ledger>(
+    alloc: Global,
     rules: &Ruleset,
     state: &mut State,
     steps: &mut Steps<L>,
@@ -47,8 +63,8 @@ pub(crate) fn last_lines<L: Ledger>(
     ensures lines { IfOk result (λ lines. lines ≡ (phase rules.now LOGGING state.old).state.lines) }
     ensures most { steps.new ≤ steps.old + rules_in LOGGING rules.now.items }
 {
-    run_phase(alloc, rules, LOGGING, state, steps)?;
-    Ok(state.take_lines(alloc))
+    let mut askers = Askers::new(alloc, rules)?;
+    last_lines(alloc, &mut askers, state, steps)
 }
 
 /// Runs the phases of the response, and the logging phase after them.
@@ -65,7 +81,15 @@ pub(crate) fn judge_response<L: Ledger>(
         + rules_in LOGGING rules.now.items) }
 {
     state.answer(alloc, response)?;
-    let verdict = two_phases(alloc, rules, RESPONSE_HEADERS, RESPONSE_BODY, state, steps)?;
-    let lines = last_lines(alloc, rules, state, steps)?;
+    let mut askers = Askers::new(alloc, rules)?;
+    let verdict = two_phases(
+        alloc,
+        &mut askers,
+        RESPONSE_HEADERS,
+        RESPONSE_BODY,
+        state,
+        steps,
+    )?;
+    let lines = last_lines(alloc, &mut askers, state, steps)?;
     Ok(Ended { verdict, lines })
 }

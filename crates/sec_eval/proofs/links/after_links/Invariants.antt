@@ -5,6 +5,7 @@ use Rattle.sec_eval.proofs.links.after_links.Given as goal
 
 abbrev pub invariant-loop-link : goal.invariant-loop-link
 invariant-loop-link l = record {
-  rest : l.rest ≡ map built_link (drop l.link-index l.links);
+  place : l.place ≡ l.link-index;
+  askers : l.askers ≡ map built_link l.links;
   left : after_links (drop l.link-index l.links) l.state ≡ after_links l.links l.fn.state;
 }

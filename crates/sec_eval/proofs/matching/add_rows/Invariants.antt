@@ -10,8 +10,11 @@ use Rattle.sec_eval.proofs.matching.add_rows.Given as goal
 abbrev pub invariant-loop-name : goal.invariant-loop-name
 invariant-loop-name l =
     let test = keeps is_matched (zip l.query.targets.now l.query.patterns.now) [] (l.target, l.pattern) in
-    l.out ++ matched_of l.question (map (value_row l.target.var) (filter (λ r. test r.name) (row_list l.rest)))
-    ≡ l.fn.out ++ matched_of l.question (map (value_row l.target.var) (filter (λ r. test r.name) (row_list l.rows)))
+    record {
+      same : l.asker ≡ l.fn.asker;
+      out : l.out ++ matched_of l.question (map (value_row l.target.var) (filter (λ r. test r.name) (row_list l.rest)))
+          ≡ l.fn.out ++ matched_of l.question (map (value_row l.target.var) (filter (λ r. test r.name) (row_list l.rows)));
+    }
 
 abbrev pub decreases-loop-name : goal.decreases-loop-name
 decreases-loop-name l = length (row_list l.rest)

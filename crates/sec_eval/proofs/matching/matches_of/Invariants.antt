@@ -8,5 +8,8 @@ use Rattle.sec_eval.proofs.matching.matches_of.Given as goal
 abbrev pub invariant-loop-target : goal.invariant-loop-target
 invariant-loop-target l =
     let all = zip l.query.targets.now l.query.patterns.now in
-    l.out ++ matched_of l.question (flat_map (values_of is_matched all [] l.vars) (zip (drop l.target-index l.query.targets.now) l.rest))
-    ≡ matched_of l.question (selection is_matched all [] l.vars)
+    record {
+      same : l.asker ≡ l.fn.asker;
+      out : l.out ++ matched_of l.question (flat_map (values_of is_matched all [] l.vars) (zip (drop l.target-index l.query.targets.now) l.rest))
+          ≡ matched_of l.question (selection is_matched all [] l.vars);
+    }

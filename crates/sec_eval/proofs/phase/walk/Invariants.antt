@@ -7,6 +7,7 @@ use Rattle.sec_eval.proofs.phase.walk.Given as goal
 
 abbrev pub invariant-loop-item : goal.invariant-loop-item
 invariant-loop-item g l = record {
-  rest : l.rest ≡ map built_links (drop l.item-index l.items);
+  place : l.place ≡ l.item-index;
+  askers : l.askers ≡ map built_links l.items;
   runs : Continues l.fn.steps (walk l.number l.items Looking l.fn.state) l.steps (walk l.number (drop l.item-index l.items) l.passing l.state);
 }

@@ -7,6 +7,7 @@ use Rattle.sec_eval.proofs.search.search_each.Given as goal
 
 abbrev pub invariant-loop-transform : goal.invariant-loop-transform
 invariant-loop-transform l = record {
-  found : found_then (hit l.built l.argument) (drop l.transform-index l.transform-items) l.search ≡ first_hit (hit l.built l.argument) (l.value ∷ changes l.transforms l.value);
+  same : l.asker ≡ l.fn.asker;
+  found : found_then (hit l.fn.asker.op l.argument) (drop l.transform-index l.transform-items) l.search ≡ first_hit (hit l.fn.asker.op l.argument) (l.value ∷ changes l.transforms l.value);
   missed : LeadsTo (chained l.transforms l.value) (drop l.transform-index l.transform-items) l.search;
 }

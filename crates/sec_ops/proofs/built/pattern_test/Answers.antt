@@ -10,7 +10,7 @@ pub returns-in-Ok-compile-clause-ok : goal.returns-in-Ok-compile-clause-ok
 returns-in-Ok-compile-clause-ok c =
     let text = c.in-Ok.ensures.cases in
     let made = c.in-Ok-compile.ensures in
-    λ _ value bytes. compiled c.in-Ok-compile.regex c.args.source.now value (made.source ∙ text.0) made.config made.read text.1 bytes
+    λ _ value bytes. compiled c.in-Ok-compile.pattern.regex c.args.source.now value (made.source ∙ text.0) made.config made.read text.1 bytes
 
 pub returns-in-Ok-compile-clause-read : goal.returns-in-Ok-compile-clause-read
 returns-in-Ok-compile-clause-read c =
