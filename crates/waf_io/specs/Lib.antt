@@ -1,7 +1,11 @@
 pub mod Counts
+pub mod Door
+pub mod Doors
 pub mod FaultyFiles
 pub mod Files
+pub mod MemDoor
 pub mod Names
 pub mod Schedule
 pub mod Sink
 pub mod Source
+pub mod Tcp

@@ -1,4 +1,4 @@
-ghost use Rattle.std.specs.Prelude.{◌≡◌, ◌≤◌};
+ghost use Rattle.std.specs.Prelude.{◌≡◌, ◌≤◌, nat_le};
 ghost use Rattle.waf_io.specs.Schedule.{after_call, fails_at, fails_next};
 
 use std::marker::Model;
@@ -44,5 +44,11 @@ impl Schedule {
             self.faults = self.faults.saturating_add(1);
         }
         fails
+    }
+    // Whether a call has failed.
+    pub(crate) fn has_failed(&self) -> bool
+        ensures { result ≡ nat_le 1 self.now.faults }
+    {
+        self.faults >= 1
     }
 }
