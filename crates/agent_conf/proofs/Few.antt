@@ -1,11 +1,11 @@
--- A configuration has no more applications than its limit, and one shard at least and no more than theirs.
+-- A configuration has no more applications than its limit, and one shard and one worker at least, and no more than theirs.
 use Rattle.std.proofs.Common.{◌≡◌, ◌<◌, ◌≤◌, ◌&&◌, cond, pos, negsuc, ◌⊎◌, inl, inr, zero, suc, ℕ, List, [], ◌∷◌, ◌++◌, Bool, true, false, map, flat_map, drop, length, refl, sym, subst, arith, length-append, Option, Some, None, Ok, Err}
 use Rattle.std.proofs.lemmas.Bool.{and_parts, false≢true, leb-true}
 use Rattle.std.proofs.lemmas.List.{length-map}
 use Rattle.toml.specs.Data.{Data, string, integer, float, boolean, datetime, array, table, Items, no_items, item, Members, get_member}
 use Rattle.std.specs.Prelude.{codes, is_some, nat_le, unwrap_or}
 use Rattle.agent_conf.specs.declared.conf.Conf.{Conf}
-use Rattle.agent_conf.specs.declared.limits.TheConstants.{APP_LIMIT, SHARD_LIMIT}
+use Rattle.agent_conf.specs.declared.limits.TheConstants.{APP_LIMIT, DEFAULT_SHARDS, DEFAULT_WORKERS, SHARD_LIMIT, WORKER_LIMIT}
 use Rattle.agent_conf.specs.declared.fault.ConfFault.{ConfFault}
 use Rattle.agent_conf.specs.declared.fault.ConfFault.TheVariants as faults
 use Rattle.agent_conf.specs.Applications.{application_faults}
@@ -13,7 +13,7 @@ use Rattle.agent_conf.specs.Configuration.{application_of, conf_of}
 use Rattle.agent_conf.specs.Document.{applications, document, tables, tables_in, tables_of}
 use Rattle.agent_conf.specs.Faults.{Row, application_rows, bad_keys, bad_values, crowded, faults_of, missing, of_document, reading, top_rows, unknown, unless_faulty}
 use Rattle.agent_conf.specs.Reading.{unless}
-use Rattle.agent_conf.specs.Values.{app_is_good, are_tables, count, shards_in}
+use Rattle.agent_conf.specs.Values.{app_is_good, are_tables, count, number_in, shards_in, where_absent, workers_in}
 
 one_table : (value : Data) → length (tables_of value) ≤ 1
 one_table (string text) = omega arith
@@ -111,49 +111,63 @@ pub few_read : (text : List ℕ) (conf : Conf) → (Ok conf ≡ reading text) �
 few_read text conf (inl is) = few_apps text conf is
 few_read text conf (inr is) = cc
 
--- ---- shards
+-- ---- shards and workers
 
-abbrev pub AreShards : ℕ → Type 0
-AreShards count = (0 < count) × (count ≤ SHARD_LIMIT)
+-- one at least, and no more than the limit
+abbrev pub AreSome : ℕ → ℕ → Type 0
+AreSome limit count = (0 < count) × (count ≤ limit)
 
 good_shards : (top : Members) → bad_keys top_rows top ≡ [] → is_some (shards_in (get_member (codes "shards") top)) ≡ true
 good_shards top none =
     let good = is_some (shards_in (get_member (codes "shards") top)) in
     good_unless good (codes "shards") (no_front (unless good (codes "shards")) (bad_keys (drop 3 top_rows) top) (skip 2 top_rows top none))
 
-number_of_shards : (n : ℕ) (b : Bool) → (nat_le 1 n && nat_le n SHARD_LIMIT) ≡ b → is_some (cond b (Some n) None) ≡ true → AreShards (unwrap_or (cond b (Some n) None) 0)
-number_of_shards n true e h =
-    let both = and_parts (nat_le 1 n) (nat_le n SHARD_LIMIT) e in
+good_workers : (top : Members) → bad_keys top_rows top ≡ [] → is_some (workers_in (get_member (codes "workers") top)) ≡ true
+good_workers top none =
+    let good = is_some (workers_in (get_member (codes "workers") top)) in
+    good_unless good (codes "workers") (no_front (unless good (codes "workers")) (bad_keys (drop 4 top_rows) top) (skip 3 top_rows top none))
+
+number_within : (limit n : ℕ) (b : Bool) → (nat_le 1 n && nat_le n limit) ≡ b → is_some (cond b (Some n) None) ≡ true → AreSome limit (unwrap_or (cond b (Some n) None) 0)
+number_within limit n true e h =
+    let both = and_parts (nat_le 1 n) (nat_le n limit) e in
     let least : 1 ≤ n = leb-true 1 n both.0 in
-    let most : n ≤ SHARD_LIMIT = leb-true n SHARD_LIMIT both.1 in
+    let most : n ≤ limit = leb-true n limit both.1 in
     (omega (arith, least), most)
-number_of_shards n false e h = absurd (false≢true h)
+number_within limit n false e h = absurd (false≢true h)
 
-value_of_shards : (value : Option Data) → is_some (shards_in value) ≡ true → AreShards (unwrap_or (shards_in value) 0)
-value_of_shards None good = (omega arith, omega arith)
-value_of_shards (Some (integer (pos n))) good = number_of_shards n (nat_le 1 n && nat_le n SHARD_LIMIT) refl good
-value_of_shards (Some (integer (negsuc n))) good = absurd (false≢true good)
-value_of_shards (Some (string text)) good = absurd (false≢true good)
-value_of_shards (Some (float x)) good = absurd (false≢true good)
-value_of_shards (Some (boolean b)) good = absurd (false≢true good)
-value_of_shards (Some (datetime d)) good = absurd (false≢true good)
-value_of_shards (Some (table _)) good = absurd (false≢true good)
-value_of_shards (Some (array items)) good = absurd (false≢true good)
+value_within : (usual limit : ℕ) (value : Option Data) → AreSome limit usual → is_some (where_absent usual (number_in 1 limit) value) ≡ true
+    → AreSome limit (unwrap_or (where_absent usual (number_in 1 limit) value) 0)
+value_within usual limit None fits good = fits
+value_within usual limit (Some (integer (pos n))) fits good = number_within limit n (nat_le 1 n && nat_le n limit) refl good
+value_within usual limit (Some (integer (negsuc n))) fits good = absurd (false≢true good)
+value_within usual limit (Some (string text)) fits good = absurd (false≢true good)
+value_within usual limit (Some (float x)) fits good = absurd (false≢true good)
+value_within usual limit (Some (boolean b)) fits good = absurd (false≢true good)
+value_within usual limit (Some (datetime d)) fits good = absurd (false≢true good)
+value_within usual limit (Some (table _)) fits good = absurd (false≢true good)
+value_within usual limit (Some (array items)) fits good = absurd (false≢true good)
 
-shards_of_conf : (top : Members) → faults_of top ≡ [] → AreShards (conf_of top).shards
+abbrev pub IsManned : Conf → Type 0
+IsManned conf = AreSome SHARD_LIMIT conf.shards × AreSome WORKER_LIMIT conf.workers
+
+manned_conf : (top : Members) → faults_of top ≡ [] → IsManned (conf_of top)
 unfolding conf_of
-shards_of_conf top none = value_of_shards (get_member (codes "shards") top) (good_shards top (no_bad_key top (no_bad_value top none)))
+manned_conf top none =
+    let keys = no_bad_key top (no_bad_value top none) in (
+      value_within DEFAULT_SHARDS SHARD_LIMIT (get_member (codes "shards") top) (omega arith, omega arith) (good_shards top keys),
+      value_within DEFAULT_WORKERS WORKER_LIMIT (get_member (codes "workers") top) (omega arith, omega arith) (good_workers top keys),
+    )
 
-shards_in_document : (found : Option Members) (conf : Conf) → of_document found ≡ Ok conf → AreShards conf.shards
-shards_in_document None conf h = cc
-shards_in_document (Some top) conf h =
+manned_in_document : (found : Option Members) (conf : Conf) → of_document found ≡ Ok conf → IsManned conf
+manned_in_document None conf h = cc
+manned_in_document (Some top) conf h =
     let good = no_fault (faults_of top) (conf_of top) conf h in
-    subst (λ (c : Conf). AreShards c.shards) good.1 (shards_of_conf top good.0)
+    subst IsManned good.1 (manned_conf top good.0)
 
-shards_of_text : (text : List ℕ) (conf : Conf) → Ok conf ≡ reading text → AreShards conf.shards
+manned_text : (text : List ℕ) (conf : Conf) → Ok conf ≡ reading text → IsManned conf
 unfolding reading
-shards_of_text text conf h = shards_in_document (document text) conf (sym h)
+manned_text text conf h = manned_in_document (document text) conf (sym h)
 
-pub shards_read : (text : List ℕ) (conf : Conf) → (Ok conf ≡ reading text) ⊎ (Ok conf ≡ Err faults.NoMemory) → AreShards conf.shards
-shards_read text conf (inl is) = shards_of_text text conf is
-shards_read text conf (inr is) = cc
+pub manned_read : (text : List ℕ) (conf : Conf) → (Ok conf ≡ reading text) ⊎ (Ok conf ≡ Err faults.NoMemory) → IsManned conf
+manned_read text conf (inl is) = manned_text text conf is
+manned_read text conf (inr is) = cc

@@ -7,7 +7,7 @@ ghost use Rattle.agent_conf.specs.Unread.{LoadOpens, WhereUnread};
 ghost use Rattle.sec_read.specs.declared.faults.Fault.{Fault};
 ghost use Rattle.agent_conf.specs.declared.load_fault.LoadFault.TheVariants as faults;
 ghost use Rattle.agent_conf.specs.Faults.{reading};
-ghost use Rattle.agent_conf.specs.declared.limits.TheConstants.{APP_LIMIT, SHARD_LIMIT};
+ghost use Rattle.agent_conf.specs.declared.limits.TheConstants.{APP_LIMIT, SHARD_LIMIT, WORKER_LIMIT};
 
 mod apps;
 mod rules;
@@ -39,6 +39,7 @@ pub fn load<F: Files>(
     ensures memory { IfErr result MemoryIsApart }
     ensures place { IfSome (F.content files.old) (λ told. WhereUnread result (LoadOpens told name.now)) }
     ensures shards { IfOk result (λ found. (0 < found.0.shards) × (found.0.shards ≤ SHARD_LIMIT)) }
+    ensures workers { IfOk result (λ found. (0 < found.0.workers) × (found.0.workers ≤ WORKER_LIMIT)) }
 {
     let conf = load_conf(alloc, name, files)?;
     let list = load_apps(alloc, name, conf.apps.as_slice(), files)?;
@@ -56,6 +57,7 @@ fn load_conf<F: Files>(alloc: Global, name: &[u8], files: &mut F) -> Result<Conf
     ensures no_rules { (fault : Fault) → result ≢ Err (faults.Rules fault) }
     ensures few { IfOk result (λ conf. length conf.apps ≤ APP_LIMIT) }
     ensures shards { IfOk result (λ conf. (0 < conf.shards) × (conf.shards ≤ SHARD_LIMIT)) }
+    ensures workers { IfOk result (λ conf. (0 < conf.workers) × (conf.workers ≤ WORKER_LIMIT)) }
 {
     match files.read_file(alloc, name, CONF_LIMIT) {
         FileAnswer::Content(text) => conf_of_text(alloc, text.as_slice()),
@@ -74,6 +76,7 @@ fn conf_of_text(alloc: Global, text: &[u8]) -> Result<Conf, LoadFault>
     ensures no_rules { (fault : Fault) → result ≢ Err (faults.Rules fault) }
     ensures few { IfOk result (λ conf. length conf.apps ≤ APP_LIMIT) }
     ensures shards { IfOk result (λ conf. (0 < conf.shards) × (conf.shards ≤ SHARD_LIMIT)) }
+    ensures workers { IfOk result (λ conf. (0 < conf.workers) × (conf.workers ≤ WORKER_LIMIT)) }
 {
     match read_conf(alloc, text) {
         Ok(conf) => Ok(conf),

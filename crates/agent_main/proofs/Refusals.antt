@@ -3,10 +3,10 @@ use Rattle.std.proofs.Common.{◌≡◌, ◌≤◌, ℕ, List, length, Option, S
 use Rattle.std.specs.Prelude.{cond}
 use Rattle.std.specs.Option.{IfSome}
 use Rattle.std.proofs.lemmas.Bool.{le-ltb, lt-ltb}
-use Rattle.agent_main.specs.declared.command_fault.CommandFault as command
-use Rattle.agent_main.specs.declared.command_fault.CommandFault.TheVariants as faults
+use Rattle.reports.specs.declared.faults.CommandFault as command
+use Rattle.reports.specs.declared.faults.CommandFault.TheVariants as faults
 use Rattle.agent_main.specs.declared.script.TheConstants.{SCRIPT_LIMIT}
-use Rattle.agent_main.specs.CommandFaults.{Tells}
+use Rattle.reports.specs.CommandFaults.{Tells}
 use Rattle.agent_main.specs.Playing.{IsBadLine, Takes}
 use Rattle.agent_main.specs.Turns.{Command}
 use Rattle.agent_main.specs.Replay.{for_shards, in_script, script_in}

@@ -6,14 +6,14 @@ use Rattle.agent_conf.specs.declared.load_fault.LoadFault.{LoadFault}
 use Rattle.sec_read.specs.FileWords.{Named}
 use Rattle.shelf.specs.declared.apps.Apps.{Apps}
 use Rattle.world_core.specs.Standing.{Shared}
-use Rattle.agent_main.specs.declared.command_fault.CommandFault as command
-use Rattle.agent_main.specs.declared.command_fault.CommandFault.TheVariants as faults
+use Rattle.reports.specs.declared.faults.CommandFault as command
+use Rattle.reports.specs.declared.faults.CommandFault.TheVariants as faults
 use Rattle.agent_main.specs.declared.entry.Entry.{Entry}
 use Rattle.agent_main.specs.declared.playing.Limits.{Limits}
-use Rattle.agent_main.specs.CommandFaults.{IsFaultOf, Tells}
+use Rattle.reports.specs.CommandFaults.{IsFaultOf, Tells}
 use Rattle.agent_main.specs.Playing.{TellsText}
 use Rattle.agent_main.specs.Replay.{IsReplay, IsRun, Replayed, Told, in_script, script_in}
-use Rattle.agent_main.specs.Report.{Reported}
+use Rattle.reports.specs.Report.{Reported}
 use Rattle.agent_main.specs.Turns.{Command, Loads, Plays, entries_text, limits_of}
 
 -- a run whose files told the same before, and failed no more often

@@ -6,8 +6,8 @@ use Rattle.std.proofs.lemmas.List.{append-nil}
 use Rattle.replay_text.specs.Commands.{command_of}
 use Rattle.replay_text.specs.Script.{commands_from, in_order, is_in_order, lines_of, next, script, with_next}
 use Rattle.std.specs.Prelude.{IfOk}
-use Rattle.agent_main.specs.declared.command_fault.CommandFault as command
-use Rattle.agent_main.specs.CommandFaults.{Tells}
+use Rattle.reports.specs.declared.faults.CommandFault as command
+use Rattle.reports.specs.CommandFaults.{Tells}
 use Rattle.replay_text.specs.Playable.{IsPlayable, names_shard}
 use Rattle.agent_main.specs.Turns.{Command}
 use Rattle.agent_main.specs.Replay.{in_script, known, unless_at}

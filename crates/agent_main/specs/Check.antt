@@ -7,7 +7,7 @@ use Rattle.sec_parts.specs.Results.{◌>>=◌}
 use Rattle.sec_read.specs.FileWords.{Named}
 use Rattle.shelf.specs.declared.apps.App.{App}
 use Rattle.agent_conf.specs.Loading.{loaded}
-use Rattle.agent_main.specs.FaultLines.{in_line}
+use Rattle.reports.specs.FaultLines.{in_line}
 
 -- the name of an application, and its rules in canonical text
 abbrev pub app_text : App Listing → List ℕ

@@ -12,13 +12,13 @@ use Rattle.workload.specs.declared.world.TheConstants.{RULES, RULES_NAME}
 use Rattle.workload.specs.Workload.{script}
 use Rattle.world_core.specs.Standing.{Shared}
 use Rattle.agent_main.specs.declared.entry.Entry.{Entry}
-use Rattle.agent_main.specs.declared.command_fault.CommandFault as command
-use Rattle.agent_main.specs.declared.command_fault.CommandFault.TheVariants as faults
+use Rattle.reports.specs.declared.faults.CommandFault as command
+use Rattle.reports.specs.declared.faults.CommandFault.TheVariants as faults
 use Rattle.agent_main.specs.declared.generate.TheConstants.{CAPACITY, LIFE, SIZE}
 use Rattle.agent_main.specs.declared.playing.Limits.{Limits}
 use Rattle.agent_main.specs.Listings.{listing_under}
 use Rattle.agent_main.specs.Replay.{Told}
-use Rattle.agent_main.specs.Report.{OutOfMemory, Reported}
+use Rattle.reports.specs.Report.{OutOfMemory, Reported}
 use Rattle.agent_main.specs.Summary.{summary}
 use Rattle.agent_main.specs.Turns.{Plays}
 

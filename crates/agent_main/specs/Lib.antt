@@ -1,12 +1,9 @@
 pub mod Check
-pub mod FaultLines
-pub mod CommandFaults
 pub mod Generate
 pub mod Judge
 pub mod Listings
 pub mod Playing
 pub mod Replay
-pub mod Report
 pub mod Run
 pub mod Summary
 pub mod Turns

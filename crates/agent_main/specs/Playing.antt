@@ -4,8 +4,8 @@ use Rattle.std.specs.Arc.{arc_value}
 use Rattle.sec_read.specs.FileWords.{Named}
 use Rattle.world_core.specs.declared.step.Step.{Step}
 use Rattle.world_core.specs.Standing.{May, Moves, Shared, SharedView}
-use Rattle.agent_main.specs.declared.command_fault.CommandFault as command
-use Rattle.agent_main.specs.declared.command_fault.CommandFault.TheVariants as faults
+use Rattle.reports.specs.declared.faults.CommandFault as command
+use Rattle.reports.specs.declared.faults.CommandFault.TheVariants as faults
 use Rattle.agent_main.specs.declared.entry.Shown as showing
 use Rattle.agent_main.specs.declared.playing.Plan as planning
 use Rattle.agent_main.specs.declared.playing.Plan.TheVariants as plans

@@ -10,8 +10,8 @@ use Rattle.shelf.specs.declared.apps.Apps.{Apps}
 use Rattle.world_core.specs.Standing.{Shared}
 use Rattle.agent_main.specs.declared.entry.Entry.{Entry}
 use Rattle.agent_main.specs.declared.script.TheConstants.{SCRIPT_LIMIT}
-use Rattle.agent_main.specs.FaultLines.{fault_line}
-use Rattle.agent_main.specs.Report.{OutOfMemory, Reported}
+use Rattle.reports.specs.FaultLines.{fault_line}
+use Rattle.reports.specs.Report.{OutOfMemory, Reported}
 use Rattle.agent_main.specs.Turns.{Command, Load, Loads, Plays, entries_text, limits_of}
 
 -- ---- the script

@@ -6,7 +6,7 @@ use Rattle.conn_loop.specs.declared.connection.ConnEnd as end
 use Rattle.conn_loop.specs.declared.connection.ConnEnd.TheVariants as ends
 use Rattle.conn_loop.specs.Ends.{around, Serves}
 use Rattle.sec_ast.specs.declared.listing.Listing.{Listing}
-use Rattle.agent_main.specs.declared.exit_status.TheConstants.{DONE, UNFINISHED, READ_FAULT, WRITE_FAULT, OUT_OF_MEMORY}
+use Rattle.reports.specs.declared.exit_status.TheConstants.{DONE, UNFINISHED, READ_FAULT, WRITE_FAULT, OUT_OF_MEMORY}
 use Rattle.agent_main.specs.declared.once.TheConstants.{OWN_SIZE}
 use Rattle.agent_main.specs.Judge.{Desk, opening, serves}
 

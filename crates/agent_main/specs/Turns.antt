@@ -22,7 +22,7 @@ use Rattle.agent_main.specs.declared.entry.Entry.{Entry}
 use Rattle.agent_main.specs.declared.entry.Shown as showing
 use Rattle.agent_main.specs.declared.entry.Shown.TheVariants as showns
 use Rattle.agent_main.specs.declared.playing.Limits.{Limits}
-use Rattle.agent_main.specs.FaultLines.{fault_line}
+use Rattle.reports.specs.FaultLines.{fault_line}
 
 abbrev pub Command : Type 0
 Command = script_command.Command

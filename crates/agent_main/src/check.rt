@@ -2,16 +2,15 @@ ghost use Rattle.std.specs.Prelude.{◌≡◌, ◌≢◌, ◌++◌, Err, IfOk, I
 ghost use Rattle.std.specs.Arc.{arc_value};
 ghost use Rattle.waf_io.specs.Counts.{Rose};
 ghost use Rattle.agent_conf.specs.Seen.{app_seen};
-ghost use Rattle.agent_main.specs.declared.exit_status.TheConstants.{OTHER_WORDS, READ_FAULT, UNFINISHED, WRITE_FAULT};
-ghost use Rattle.agent_main.specs.declared.command_fault.CommandFault.TheVariants as faults;
+ghost use Rattle.reports.specs.declared.exit_status.TheConstants.{OTHER_WORDS, READ_FAULT, UNFINISHED, WRITE_FAULT};
+ghost use Rattle.reports.specs.declared.faults.CommandFault.TheVariants as faults;
 ghost use Rattle.agent_main.specs.Check.{app_text, apps_text, checked};
-ghost use Rattle.agent_main.specs.CommandFaults.{Tells};
-ghost use Rattle.agent_main.specs.Report.{Answers};
+ghost use Rattle.reports.specs.CommandFaults.{Tells};
+ghost use Rattle.reports.specs.Report.{Answers};
 
-use crate::command_fault::{CommandFault, command_fault};
-use crate::exit_status::{DONE, OUT_OF_MEMORY, READ_FAULT, REFUSED};
-use crate::report::report;
 use agent_conf::load;
+use reports::exit_status::{DONE, OUT_OF_MEMORY, READ_FAULT, REFUSED};
+use reports::{CommandFault, command_fault, report};
 use sec_ast::print_listing;
 use sec_compile::Ruleset;
 use shelf::App;

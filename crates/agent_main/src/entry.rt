@@ -1,10 +1,10 @@
 ghost use Rattle.std.specs.Prelude.{◌≡◌, ◌++◌, IfOk, OnOk};
 ghost use Rattle.agent_main.specs.Turns.{entries_text, entry_text};
 
-use crate::fault_lines::fault_line;
 use agent_conf::LoadFault;
 use conn_core::Seen;
 use replay_text::write_seen;
+use reports::fault_line;
 use std::alloc::Global;
 use waf_plain::{Bytes, NoMemory};
 

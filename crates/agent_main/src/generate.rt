@@ -1,15 +1,14 @@
 ghost use Rattle.std.specs.Prelude.{◌≡◌, ◌≢◌, Err, IfOk, Ok};
 ghost use Rattle.waf_io.specs.Counts.{Rose};
-ghost use Rattle.agent_main.specs.declared.command_fault.CommandFault.TheVariants as faults;
-ghost use Rattle.agent_main.specs.declared.exit_status.TheConstants.{OTHER_WORDS, READ_FAULT, UNFINISHED, WRITE_FAULT};
+ghost use Rattle.reports.specs.declared.faults.CommandFault.TheVariants as faults;
+ghost use Rattle.reports.specs.declared.exit_status.TheConstants.{OTHER_WORDS, READ_FAULT, UNFINISHED, WRITE_FAULT};
 ghost use Rattle.agent_main.specs.Generate.{AreOnly, Generated, TellsCounts, built_in_files, limits};
 
-use crate::command_fault::CommandFault;
-use crate::exit_status::{DONE, OUT_OF_MEMORY, REFUSED};
 use crate::listings::rules_of;
 use crate::playing::{Limits, played};
-use crate::report::report;
 use crate::summary::summary;
+use reports::exit_status::{DONE, OUT_OF_MEMORY, REFUSED};
+use reports::{CommandFault, report};
 use sec_compile::Ruleset;
 use shelf::{App, Apps, Settings};
 use std::alloc::Global;

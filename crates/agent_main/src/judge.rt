@@ -57,6 +57,12 @@ impl Host<TheRules, Half, Ticket> for OnceHost {
 
     ghost desk = { λ h. record { rules = arc_value h.rules; table = h.hall } };
 
+    ghost Fixed = { Unit {0} };
+
+    ghost fixed = { λ h. tt };
+
+    ghost ready = { λ h. Unit {0} };
+
     ghost serves = { serves };
 
     ghost holds = { holds };
@@ -100,6 +106,8 @@ impl Host<TheRules, Half, Ticket> for OnceHost {
     fn retire(&mut self, half: Half) -> bool {
         retired(self.alloc, half).is_ok()
     }
+
+    fn written(&mut self) {}
 }
 
 fn entry_answer(entry: Entry) -> EntryAnswer<Ticket>

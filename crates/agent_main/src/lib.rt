@@ -7,10 +7,7 @@
 #![tactic(auto)]
 
 mod check;
-mod command_fault;
 mod entry;
-mod exit_status;
-mod fault_lines;
 mod generate;
 mod judge;
 mod listings;
@@ -18,7 +15,6 @@ mod offline;
 mod once;
 mod playing;
 mod replay;
-mod report;
 mod script;
 mod summary;
 mod verdicts;

@@ -1,11 +1,11 @@
 ghost use Rattle.std.specs.Prelude.{◌≡◌, ◌≤◌, ◌∷◌, [], Err, IfOk, IfSome};
 ghost use Rattle.waf_io.specs.Counts.{Rose};
-ghost use Rattle.agent_main.specs.declared.command_fault.CommandFault.TheVariants as faults;
-ghost use Rattle.agent_main.specs.CommandFaults.{Tells};
+ghost use Rattle.reports.specs.declared.faults.CommandFault.TheVariants as faults;
+ghost use Rattle.reports.specs.CommandFaults.{Tells};
 ghost use Rattle.agent_main.specs.Listings.{listing_under};
 
-use crate::command_fault::{CommandFault, command_fault};
 use agent_conf::load_rules;
+use reports::{CommandFault, command_fault};
 use sec_compile::Ruleset;
 use std::alloc::Global;
 use waf_io::Files;

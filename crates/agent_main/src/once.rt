@@ -1,18 +1,17 @@
 ghost use Rattle.std.specs.Prelude.{◌≡◌, ◌≢◌, ◌⊎◌, Err, IfSome, List, Ok, ℕ};
 ghost use Rattle.waf_io.specs.Counts.{Rose};
 ghost use Rattle.agent_main.specs.Listings.{listing_under};
-ghost use Rattle.agent_main.specs.Report.{FilesFailFirst, Prints};
+ghost use Rattle.reports.specs.Report.{FilesFailFirst, Prints};
 ghost use Rattle.agent_main.specs.Run.{Exits, status_of};
-ghost use Rattle.agent_main.specs.declared.exit_status.TheConstants.{OTHER_WORDS, READ_FAULT, REFUSED, WRITE_FAULT};
+ghost use Rattle.reports.specs.declared.exit_status.TheConstants.{OTHER_WORDS, READ_FAULT, REFUSED, WRITE_FAULT};
 ghost use Rattle.sec_ast.specs.declared.listing.Listing.{Listing};
 
-use crate::command_fault::CommandFault;
-use crate::exit_status::{DONE, OUT_OF_MEMORY, READ_FAULT, REFUSED, UNFINISHED, WRITE_FAULT};
 use crate::judge::OnceHost;
 use crate::listings::rules_of;
-use crate::report::report;
 use conn_core::Closing;
 use conn_loop::{ConnEnd, serve};
+use reports::exit_status::{DONE, OUT_OF_MEMORY, READ_FAULT, REFUSED, UNFINISHED, WRITE_FAULT};
+use reports::{CommandFault, report};
 use sec_compile::Ruleset;
 use spop_frame::status;
 use std::alloc::Global;

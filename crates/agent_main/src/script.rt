@@ -1,13 +1,13 @@
 ghost use Rattle.std.specs.Prelude.{◌≡◌, ◌≢◌, ◌≤◌, [], Err, IfOk, IfSome, length, not, position};
 ghost use Rattle.waf_io.specs.Counts.{Rose};
-ghost use Rattle.agent_main.specs.declared.command_fault.CommandFault.TheVariants as faults;
-ghost use Rattle.agent_main.specs.CommandFaults.{Tells};
+ghost use Rattle.reports.specs.declared.faults.CommandFault.TheVariants as faults;
+ghost use Rattle.reports.specs.CommandFaults.{Tells};
 ghost use Rattle.agent_main.specs.Playing.{IsBadLine, Takes};
 ghost use Rattle.agent_main.specs.Replay.{for_shards, in_script, known, script_in, script_line};
 ghost use Rattle.replay_text.specs.Playable.{IsPlayable, names_shard};
 
-use crate::command_fault::CommandFault;
 use replay_text::{Command, ScriptFault, read_script};
+use reports::CommandFault;
 use std::alloc::Global;
 use waf_io::{Got, Source};
 use waf_plain::{Bytes, NoMemory, Seq};

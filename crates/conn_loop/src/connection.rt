@@ -49,9 +49,12 @@ pub fn serve<R: Drop, P: Drop, T, H: Host<R, P, T>, S: Source, K: Sink>(
     input: &mut S,
     output: &mut K,
 ) -> ConnEnd
+    requires ready { H.ready host.old }
     ensures served { Serves result H.serves size
         (around (H.desk host.old) (S.left input.old) (S.ends input.old) (K.held output.old))
         (around (H.desk host.new) (S.left input.new) (S.ends input.new) (K.held output.new)) }
+    ensures fixed { H.fixed host.new ≡ H.fixed host.old }
+    ensures ready { H.ready host.new }
     ensures read_fault { result ≡ ConnEnd.ReadFault → Rose (S.faults input.old) (S.faults input.new) }
     ensures write_fault { result ≡ ConnEnd.WriteFault → Rose (K.faults output.old) (K.faults output.new) }
 {
@@ -65,8 +68,11 @@ pub fn serve<R: Drop, P: Drop, T, H: Host<R, P, T>, S: Source, K: Sink>(
 
 // At its end it holds no ticket.
 fn let_go<R: Drop, P: Drop, T, H: Host<R, P, T>>(conn: Conn<R, P, T>, host: &mut H)
-    requires { IsFree conn }
-    ensures { H.desk host.new ≡ H.desk host.old }
+    requires free { IsFree conn }
+    requires ready { H.ready host.old }
+    ensures kept { H.desk host.new ≡ H.desk host.old }
+    ensures fixed { H.fixed host.new ≡ H.fixed host.old }
+    ensures ready { H.ready host.new }
 {
     if let Some(ticket) = conn.let_go() {
         host.leave(ticket);
@@ -83,10 +89,13 @@ fn serve_pieces<R: Drop, P: Drop, T, H: Host<R, P, T>, S: Source, K: Sink>(
 ) -> ConnEnd
     requires stands { Stands conn.old (opening size) }
     requires listens { listens conn.old ≡ true }
+    requires ready { H.ready host.old }
     ensures served { Serves result H.serves size
         (around (H.desk host.old) (S.left input.old) (S.ends input.old) (K.held output.old))
         (around (H.desk host.new) (S.left input.new) (S.ends input.new) (K.held output.new)) }
     ensures free { IsFree conn.new }
+    ensures fixed { H.fixed host.new ≡ H.fixed host.old }
+    ensures ready { H.ready host.new }
     ensures read_fault { result ≡ ConnEnd.ReadFault → Rose (S.faults input.old) (S.faults input.new) }
     ensures write_fault { result ≡ ConnEnd.WriteFault → Rose (K.faults output.old) (K.faults output.new) }
 {
@@ -132,9 +141,12 @@ fn hear<R: Drop, P: Drop, T, H: Host<R, P, T>, K: Sink>(
 ) -> Option<ConnEnd>
     requires runs { IsServing H.serves conn.old (H.desk host.old) (K.held output.old) }
     requires free { IsFree conn.old }
+    requires ready { H.ready host.old }
     ensures heard { Hears piece.now result H.serves
         conn.old conn.new (H.desk host.old) (H.desk host.new) (K.held output.old) (K.held output.new) }
     ensures free { IsFree conn.new }
+    ensures fixed { H.fixed host.new ≡ H.fixed host.old }
+    ensures ready { H.ready host.new }
     ensures later { K.faults output.old ≤ K.faults output.new }
     ensures no_read { result ≢ Some ConnEnd.ReadFault }
     ensures cause { result ≡ Some ConnEnd.WriteFault → Rose (K.faults output.old) (K.faults output.new) }
@@ -156,9 +168,12 @@ fn hear_end<R: Drop, P: Drop, T, H: Host<R, P, T>, K: Sink>(
     requires runs { IsServing H.serves conn.old (H.desk host.old) (K.held output.old) }
     requires listens { listens conn.old ≡ true }
     requires free { IsFree conn.old }
+    requires ready { H.ready host.old }
     ensures ended { EndsHere result H.serves
         conn.old conn.new (H.desk host.old) (H.desk host.new) (K.held output.old) (K.held output.new) }
     ensures free { IsFree conn.new }
+    ensures fixed { H.fixed host.new ≡ H.fixed host.old }
+    ensures ready { H.ready host.new }
     ensures no_read { result ≢ ConnEnd.ReadFault }
     ensures cause { result ≡ ConnEnd.WriteFault → Rose (K.faults output.old) (K.faults output.new) }
 {
@@ -178,9 +193,12 @@ fn advance<R: Drop, P: Drop, T, H: Host<R, P, T>, K: Sink>(
 ) -> Progress
     requires runs { IsServing H.serves conn.old (H.desk host.old) (K.held output.old) }
     requires held { IsHeld H.holds (H.desk host.old) conn.old }
+    requires ready { H.ready host.old }
     ensures progresses { Progresses result H.serves
         conn.old conn.new (H.desk host.old) (H.desk host.new) (K.held output.old) (K.held output.new) }
     ensures free { IsFree conn.new }
+    ensures fixed { H.fixed host.new ≡ H.fixed host.old }
+    ensures ready { H.ready host.new }
     ensures later { K.faults output.old ≤ K.faults output.new }
     ensures cause { result ≡ Progress.Fails → Rose (K.faults output.old) (K.faults output.new) }
 {
@@ -199,10 +217,13 @@ fn step<R: Drop, P: Drop, T, H: Host<R, P, T>, K: Sink>(
 ) -> Option<Progress>
     requires runs { IsServing H.serves conn.old (H.desk host.old) (K.held output.old) }
     requires held { IsHeld H.holds (H.desk host.old) conn.old }
+    requires ready { H.ready host.old }
     ensures stepped { Stepped result H.serves
         conn.old conn.new (H.desk host.old) (H.desk host.new) (K.held output.old) (K.held output.new) }
     ensures held { IsHeld H.holds (H.desk host.new) conn.new }
     ensures free { result ≢ None → IsFree conn.new }
+    ensures fixed { H.fixed host.new ≡ H.fixed host.old }
+    ensures ready { H.ready host.new }
     ensures fewer { result ≡ None → calls_left conn.new < calls_left conn.old }
     ensures later { K.faults output.old ≤ K.faults output.new }
     ensures cause { result ≡ Some Progress.Fails → Rose (K.faults output.old) (K.faults output.new) }
@@ -210,7 +231,7 @@ fn step<R: Drop, P: Drop, T, H: Host<R, P, T>, K: Sink>(
     match conn.need() {
         Need::Bytes => Some(Progress::Waits),
         Need::Close => Some(Progress::Closes(closing(conn))),
-        Need::Write => match write(conn, output) {
+        Need::Write => match write(conn, host, output) {
             Wrote::All => None,
             Wrote::Failed => Some(Progress::Fails),
         },
@@ -221,10 +242,18 @@ fn step<R: Drop, P: Drop, T, H: Host<R, P, T>, K: Sink>(
     }
 }
 
-// Writes what is to be written.
-fn write<R, P, T, K: Sink>(conn: &mut Conn<R, P, T>, output: &mut K) -> Wrote
-    requires { At Need.Write conn.old.broken conn.old.stage }
+// Writes what is to be written, and tells the host where all of it was.
+fn write<R, P, T, H: Host<R, P, T>, K: Sink>(
+    conn: &mut Conn<R, P, T>,
+    host: &mut H,
+    output: &mut K,
+) -> Wrote
+    requires at { At Need.Write conn.old.broken conn.old.stage }
+    requires ready { H.ready host.old }
     ensures writes { WritesOut result conn.old conn.new (K.held output.old) (K.held output.new) }
+    ensures kept { H.desk host.new ≡ H.desk host.old }
+    ensures fixed { H.fixed host.new ≡ H.fixed host.old }
+    ensures ready { H.ready host.new }
     ensures fewer { result ≡ Wrote.All → calls_left conn.new < calls_left conn.old }
     ensures later { K.faults output.old ≤ K.faults output.new }
     ensures cause { result ≡ Wrote.Failed → Rose (K.faults output.old) (K.faults output.new) }
@@ -233,6 +262,7 @@ fn write<R, P, T, K: Sink>(conn: &mut Conn<R, P, T>, output: &mut K) -> Wrote
         Wrote::Failed => Wrote::Failed,
         Wrote::All => {
             conn.written();
+            host.written();
             Wrote::All
         }
     }

@@ -13,8 +13,11 @@ pub fn act<R: Drop, P: Drop, T, H: Host<R, P, T>>(conn: &mut Conn<R, P, T>, host
     requires stands { (s : State R P T) × Stands conn.old s }
     requires asks { asks_host (kind_at conn.old.stage) ≡ true }
     requires held { IsHeld H.holds (H.desk host.old) conn.old }
+    requires ready { H.ready host.old }
     ensures meets { Meets H.serves conn.old conn.new (H.desk host.old) (H.desk host.new) }
     ensures held { IsHeld H.holds (H.desk host.new) conn.new }
+    ensures fixed { H.fixed host.new ≡ H.fixed host.old }
+    ensures ready { H.ready host.new }
     ensures fewer { calls_left conn.new < calls_left conn.old }
 {
     match conn.need() {
@@ -33,8 +36,11 @@ pub fn act<R: Drop, P: Drop, T, H: Host<R, P, T>>(conn: &mut Conn<R, P, T>, host
 fn look<R, P, T, H: Host<R, P, T>>(conn: &mut Conn<R, P, T>, host: &mut H)
     requires at { At Need.Look conn.old.broken conn.old.stage }
     requires asks { Asks Need.Look H.holds (H.desk host.old) conn.old }
+    requires ready { H.ready host.old }
     ensures meets { Meets H.serves conn.old conn.new (H.desk host.old) (H.desk host.new) }
     ensures held { IsHeld H.holds (H.desk host.new) conn.new }
+    ensures fixed { H.fixed host.new ≡ H.fixed host.old }
+    ensures ready { H.ready host.new }
     ensures fewer { calls_left conn.new < calls_left conn.old }
 {
     let answer = host.look(conn.app());
@@ -44,8 +50,11 @@ fn look<R, P, T, H: Host<R, P, T>>(conn: &mut Conn<R, P, T>, host: &mut H)
 fn enter<R: Drop, P, T, H: Host<R, P, T>>(conn: &mut Conn<R, P, T>, host: &mut H)
     requires at { At Need.Enter conn.old.broken conn.old.stage }
     requires asks { Asks Need.Enter H.holds (H.desk host.old) conn.old }
+    requires ready { H.ready host.old }
     ensures meets { Meets H.serves conn.old conn.new (H.desk host.old) (H.desk host.new) }
     ensures held { IsHeld H.holds (H.desk host.new) conn.new }
+    ensures fixed { H.fixed host.new ≡ H.fixed host.old }
+    ensures ready { H.ready host.new }
     ensures fewer { calls_left conn.new < calls_left conn.old }
 {
     let answer = host.enter(conn.take_key());
@@ -55,8 +64,11 @@ fn enter<R: Drop, P, T, H: Host<R, P, T>>(conn: &mut Conn<R, P, T>, host: &mut H
 fn begin<R, P, T, H: Host<R, P, T>>(conn: &mut Conn<R, P, T>, host: &mut H)
     requires at { At Need.Begin conn.old.broken conn.old.stage }
     requires asks { Asks Need.Begin H.holds (H.desk host.old) conn.old }
+    requires ready { H.ready host.old }
     ensures meets { Meets H.serves conn.old conn.new (H.desk host.old) (H.desk host.new) }
     ensures held { IsHeld H.holds (H.desk host.new) conn.new }
+    ensures fixed { H.fixed host.new ≡ H.fixed host.old }
+    ensures ready { H.ready host.new }
     ensures fewer { calls_left conn.new < calls_left conn.old }
 {
     let (rules, request) = conn.take_begin();
@@ -67,8 +79,11 @@ fn begin<R, P, T, H: Host<R, P, T>>(conn: &mut Conn<R, P, T>, host: &mut H)
 fn park<R, P, T, H: Host<R, P, T>>(conn: &mut Conn<R, P, T>, host: &mut H)
     requires at { At Need.Park conn.old.broken conn.old.stage }
     requires asks { Asks Need.Park H.holds (H.desk host.old) conn.old }
+    requires ready { H.ready host.old }
     ensures meets { Meets H.serves conn.old conn.new (H.desk host.old) (H.desk host.new) }
     ensures held { IsHeld H.holds (H.desk host.new) conn.new }
+    ensures fixed { H.fixed host.new ≡ H.fixed host.old }
+    ensures ready { H.ready host.new }
     ensures fewer { calls_left conn.new < calls_left conn.old }
 {
     let (ticket, life, half) = conn.take_park();
@@ -78,8 +93,11 @@ fn park<R, P, T, H: Host<R, P, T>>(conn: &mut Conn<R, P, T>, host: &mut H)
 fn leave<R, P, T, H: Host<R, P, T>>(conn: &mut Conn<R, P, T>, host: &mut H)
     requires at { At Need.Leave conn.old.broken conn.old.stage }
     requires asks { Asks Need.Leave H.holds (H.desk host.old) conn.old }
+    requires ready { H.ready host.old }
     ensures meets { Meets H.serves conn.old conn.new (H.desk host.old) (H.desk host.new) }
     ensures held { IsHeld H.holds (H.desk host.new) conn.new }
+    ensures fixed { H.fixed host.new ≡ H.fixed host.old }
+    ensures ready { H.ready host.new }
     ensures fewer { calls_left conn.new < calls_left conn.old }
 {
     let ticket = conn.take_leave();
@@ -89,8 +107,11 @@ fn leave<R, P, T, H: Host<R, P, T>>(conn: &mut Conn<R, P, T>, host: &mut H)
 fn retire<R, P, T, H: Host<R, P, T>>(conn: &mut Conn<R, P, T>, host: &mut H)
     requires at { At Need.Retire conn.old.broken conn.old.stage }
     requires asks { Asks Need.Retire H.holds (H.desk host.old) conn.old }
+    requires ready { H.ready host.old }
     ensures meets { Meets H.serves conn.old conn.new (H.desk host.old) (H.desk host.new) }
     ensures held { IsHeld H.holds (H.desk host.new) conn.new }
+    ensures fixed { H.fixed host.new ≡ H.fixed host.old }
+    ensures ready { H.ready host.new }
     ensures fewer { calls_left conn.new < calls_left conn.old }
 {
     let half = conn.take_retire();
@@ -101,8 +122,11 @@ fn retire<R, P, T, H: Host<R, P, T>>(conn: &mut Conn<R, P, T>, host: &mut H)
 fn resume<R, P, T, H: Host<R, P, T>>(conn: &mut Conn<R, P, T>, host: &mut H)
     requires at { At Need.Resume conn.old.broken conn.old.stage }
     requires asks { Asks Need.Resume H.holds (H.desk host.old) conn.old }
+    requires ready { H.ready host.old }
     ensures meets { Meets H.serves conn.old conn.new (H.desk host.old) (H.desk host.new) }
     ensures held { IsHeld H.holds (H.desk host.new) conn.new }
+    ensures fixed { H.fixed host.new ≡ H.fixed host.old }
+    ensures ready { H.ready host.new }
     ensures fewer { calls_left conn.new < calls_left conn.old }
 {
     let answer = host.resume(conn.take_key());
@@ -112,8 +136,11 @@ fn resume<R, P, T, H: Host<R, P, T>>(conn: &mut Conn<R, P, T>, host: &mut H)
 fn finish<R, P, T, H: Host<R, P, T>>(conn: &mut Conn<R, P, T>, host: &mut H)
     requires at { At Need.Finish conn.old.broken conn.old.stage }
     requires asks { Asks Need.Finish H.holds (H.desk host.old) conn.old }
+    requires ready { H.ready host.old }
     ensures meets { Meets H.serves conn.old conn.new (H.desk host.old) (H.desk host.new) }
     ensures held { IsHeld H.holds (H.desk host.new) conn.new }
+    ensures fixed { H.fixed host.new ≡ H.fixed host.old }
+    ensures ready { H.ready host.new }
     ensures fewer { calls_left conn.new < calls_left conn.old }
 {
     let (half, response) = conn.take_finish();

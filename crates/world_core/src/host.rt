@@ -20,6 +20,12 @@ impl<J: Judge> Host<SharedRules, Judged<J>, Ticket> for Tables<J> {
 
     ghost desk = { desk_of };
 
+    ghost Fixed = { Unit {0} };
+
+    ghost fixed = { λ tables. tt };
+
+    ghost ready = { λ tables. Unit {0} };
+
     ghost serves = { Serves arc_value };
 
     ghost holds = { λ desk ticket. Runs desk.halls ticket };
@@ -112,4 +118,6 @@ impl<J: Judge> Host<SharedRules, Judged<J>, Ticket> for Tables<J> {
             Err(NoMemory) => false,
         }
     }
+
+    fn written(&mut self) {}
 }

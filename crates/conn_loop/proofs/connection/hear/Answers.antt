@@ -11,6 +11,7 @@ advance-requires g c =
     record {
       runs = (r.0, r.1, fed c.args.conn.now c.args.piece.now r.2, runs_fed g.H.Host.serves r.0 _ _ r.2 c.args.piece.now _ r.1 _ c.feed.ensures.deaf r.3 stands);
       held = free_held g.H.Host.holds _ c.feed.new.self (fed_free _ _ r.2 c.args.piece.now r.3.stands stands c.requires.free);
+      ready = c.requires.ready;
     }
 
 pub returns-in-Fails-clause-heard : goal.returns-in-Fails-clause-heard

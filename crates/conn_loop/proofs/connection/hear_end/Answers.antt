@@ -11,6 +11,7 @@ advance-requires g c =
     record {
       runs = (r.0, r.1, shut c.args.conn.now r.2, runs_shut g.H.Host.serves r.0 _ _ r.2 _ r.1 _ c.end.ensures.deaf r.3 stands);
       held = free_held g.H.Host.holds _ c.end.new.self (shut_free _ _ r.2 r.3.stands stands c.requires.free);
+      ready = c.requires.ready;
     }
 
 pub unreachable-requires : goal.unreachable-requires

@@ -8,6 +8,8 @@ pub loop-taken-init : goal.loop-taken-init
 loop-taken-init g c = record {
   serving = opens g.H.Host.serves c.args.size (g.H.Host.desk c.args.host.now) (g.S.Source.left c.args.input.now) (g.K.Sink.held c.args.output.now) c.args.conn.now c.requires.stands c.requires.listens;
   free = free_at_first c.args.size c.args.conn.now c.requires.stands;
+  fixed = refl;
+  ready = c.requires.ready;
   few = omega arith;
   goes_on = refl;
   reads = omega arith;
@@ -28,7 +30,7 @@ returns-in-End-clause-served g c =
 pub hear-requires : goal.hear-requires
 hear-requires g c =
     let kept = c.loop-taken.invariant in
-    record { runs = (g.H.Host.desk c.args.host.now, g.K.Sink.held c.args.output.now, kept.serving.state, kept.serving.runs); free = kept.free }
+    record { runs = (g.H.Host.desk c.args.host.now, g.K.Sink.held c.args.output.now, kept.serving.state, kept.serving.runs); free = kept.free; ready = kept.ready }
 
 pub returns-in-Some-clause-served : goal.returns-in-Some-clause-served
 returns-in-Some-clause-served g c =
@@ -49,6 +51,8 @@ loop-taken-preserved g c =
           c.read_piece.new.buffer c.split_at.result.0.now kept.serving c.in-Bytes.ensures.bytes.2 c.split_at.ensures.front count
           (g.S.Source.ends c.args.input.now) (g.S.Source.ends c.read_piece.new.input) (c.in-Bytes.ensures.end ∙ kept.goes_on) c.in_default.ensures.heard;
       free = c.hear.ensures.free;
+      fixed = c.hear.ensures.fixed ∙ kept.fixed;
+      ready = c.hear.ensures.ready;
       few = fits;
       goes_on = c.in-Bytes.ensures.end ∙ kept.goes_on;
       reads = omega (arith, kept.reads, c.read_piece.ensures.later);

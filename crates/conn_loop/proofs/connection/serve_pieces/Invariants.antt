@@ -11,6 +11,8 @@ invariant-loop-taken g l =
       serving : Serving g.H.Host.serves l.size (g.H.Host.desk l.fn.host) (source.left l.fn.input) (source.left l.input) l.taken l.conn (g.H.Host.desk l.host) (sink.held l.fn.output)
           (sink.held l.output);
       free : IsFree l.conn;
+      fixed : g.H.Host.fixed l.host ≡ g.H.Host.fixed l.fn.host;
+      ready : g.H.Host.ready l.host;
       few : l.taken ≤ 4611686018427387904;
       goes_on : source.ends l.input ≡ source.ends l.fn.input;
       reads : source.faults l.fn.input ≤ source.faults l.input;

@@ -1,7 +1,9 @@
-use Rattle.std.proofs.Common.{◌≡◌, true, refl, rules}
+use Rattle.std.proofs.Common.{◌≡◌, true, refl, sym, subst, rules}
 use Rattle.conn_core.specs.declared.need.Need.TheVariants as needs
 use Rattle.conn_core.specs.Calls.{kind_at, out_of}
+use Rattle.conn_loop.specs.declared.connection.Progress.TheVariants.{Fails}
 use Rattle.conn_loop.specs.Met.{asks_host}
+use Rattle.conn_loop.specs.Steps.{Acts, Progresses}
 use Rattle.conn_loop.proofs.Meeting.{free_held, quiet_free}
 use Rattle.conn_loop.proofs.Moving.{acts_of, wrote}
 use Rattle.conn_loop.proofs.Serving.{written_free}
@@ -18,12 +20,14 @@ returns-in-Close-clause-stepped g c = closes g.H.Host.serves c.args.conn.now c.c
 
 pub returns-in-All-clause-stepped : goal.returns-in-All-clause-stepped
 returns-in-All-clause-stepped g c =
-    wrote g.H.Host.serves c.args.conn.now c.write.new.conn (g.H.Host.desk c.args.host.now) (g.K.Sink.held c.args.output.now) (g.K.Sink.held c.write.new.output) c.in-All.ensures.writes
+    subst (λ (desk : g.H.Host.Desk). Acts g.H.Host.serves c.args.conn.now c.write.new.conn (g.H.Host.desk c.args.host.now) desk (g.K.Sink.held c.args.output.now) (g.K.Sink.held c.write.new.output)) (sym c.in-All.ensures.kept)
+    (wrote g.H.Host.serves c.args.conn.now c.write.new.conn (g.H.Host.desk c.args.host.now) (g.K.Sink.held c.args.output.now) (g.K.Sink.held c.write.new.output) c.in-All.ensures.writes)
 
 pub returns-in-Failed-clause-stepped : goal.returns-in-Failed-clause-stepped
 returns-in-Failed-clause-stepped g c =
-    cut_off g.H.Host.serves c.args.conn.now c.write.new.conn (g.H.Host.desk c.args.host.now) (g.K.Sink.held c.args.output.now) (g.K.Sink.held c.write.new.output)
-    (c.in-Write.ensures.at c.requires.runs.2 c.requires.runs.3.stands) c.in-Failed.ensures.writes
+    subst (λ (desk : g.H.Host.Desk). Progresses Fails g.H.Host.serves c.args.conn.now c.write.new.conn (g.H.Host.desk c.args.host.now) desk (g.K.Sink.held c.args.output.now) (g.K.Sink.held c.write.new.output)) (sym c.in-Failed.ensures.kept)
+    (cut_off g.H.Host.serves c.args.conn.now c.write.new.conn (g.H.Host.desk c.args.host.now) (g.K.Sink.held c.args.output.now) (g.K.Sink.held c.write.new.output)
+    (c.in-Write.ensures.at c.requires.runs.2 c.requires.runs.3.stands) c.in-Failed.ensures.writes)
 
 pub returns-in-All-clause-held : goal.returns-in-All-clause-held
 returns-in-All-clause-held g c =

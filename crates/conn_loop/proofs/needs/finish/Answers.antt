@@ -8,7 +8,7 @@ use Rattle.conn_loop.proofs.needs.finish.Goals as goal
 pub returns-clause-meets : goal.returns-clause-meets
 returns-clause-meets g c = λ s h.
     let t = c.take_finish-half in
-    meets_finish g.H.Host.serves _ _ _ _ s _ _ c.finish-answer.result c.requires.asks.kind c.requires.at.1 c.finish-answer.ensures c.give_ended.ensures.broken
+    meets_finish g.H.Host.serves _ _ _ _ s _ _ c.finish-answer.result c.requires.asks.kind c.requires.at.1 c.finish-answer.ensures.serves c.give_ended.ensures.broken
     (finish_stands c.give_ended.new.self s t.result.0 t.result.1 c.finish-answer.result (c.give_ended.ensures.next _ (t.ensures.done s h)))
 
 pub returns-clause-held : goal.returns-clause-held

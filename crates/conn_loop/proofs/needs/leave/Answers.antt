@@ -3,8 +3,8 @@ use Rattle.conn_core.specs.Trace.{Leave}
 use Rattle.conn_loop.proofs.Meeting.{alone_stands, free_held, meets_alone, spent_free, spent_is_held}
 use Rattle.conn_loop.proofs.needs.leave.Goals as goal
 
-pub leave-requires : goal.leave-requires
-leave-requires g c =
+pub leave-requires-clause-holds : goal.leave-requires-clause-holds
+leave-requires-clause-holds g c =
     let asks = c.requires.asks in
     let t = c.take_leave-ticket in
     spent_is_held g.H.Host.holds _ _ _ asks.state (Leave t.result) t.result asks.stands (t.ensures.next asks.state asks.stands) refl asks.held
@@ -12,7 +12,7 @@ leave-requires g c =
 pub returns-clause-meets : goal.returns-clause-meets
 returns-clause-meets g c = λ s h.
     let t = c.take_leave-ticket in
-    meets_alone g.H.Host.serves _ _ _ _ s (Leave t.result) c.requires.asks.kind t.ensures.stays c.leave.ensures refl (alone_stands t.new.self s (Leave t.result) refl (t.ensures.next s h))
+    meets_alone g.H.Host.serves _ _ _ _ s (Leave t.result) c.requires.asks.kind t.ensures.stays c.leave.ensures.serves refl (alone_stands t.new.self s (Leave t.result) refl (t.ensures.next s h))
 
 pub returns-clause-held : goal.returns-clause-held
 returns-clause-held g c =

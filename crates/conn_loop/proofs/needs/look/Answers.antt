@@ -9,7 +9,7 @@ use Rattle.conn_loop.proofs.needs.look.Goals as goal
 pub returns-clause-meets : goal.returns-clause-meets
 returns-clause-meets g c = λ s h.
     meets_look g.H.Host.serves _ _ _ _ s _ c.look-answer.result c.requires.asks.kind c.requires.at.1
-    (subst (λ (l : List ℕ). g.H.Host.serves (g.H.Host.desk c.args.host.now) (Look l) (look_replies c.look-answer.result) (g.H.Host.desk c.look-answer.new.self)) c.app.ensures c.look-answer.ensures)
+    (subst (λ (l : List ℕ). g.H.Host.serves (g.H.Host.desk c.args.host.now) (Look l) (look_replies c.look-answer.result) (g.H.Host.desk c.look-answer.new.self)) c.app.ensures c.look-answer.ensures.serves)
     c.give_look.ensures.broken (look_stands c.give_look.new.self s _ c.look-answer.result (c.give_look.ensures.next s h))
 
 pub returns-clause-held : goal.returns-clause-held

@@ -7,7 +7,7 @@ use Rattle.conn_loop.proofs.needs.resume.Goals as goal
 
 pub returns-clause-meets : goal.returns-clause-meets
 returns-clause-meets g c = λ s h.
-    meets_full g.H.Host.serves _ _ _ _ s (Resume c.take_key.result) _ c.requires.asks.kind c.requires.at.1 c.resume-answer.ensures refl
+    meets_full g.H.Host.serves _ _ _ _ s (Resume c.take_key.result) _ c.requires.asks.kind c.requires.at.1 c.resume-answer.ensures.serves refl
     (c.give_claim.ensures.next _ (c.take_key.ensures.resumed c.requires.at.0 s h))
 
 pub returns-clause-held : goal.returns-clause-held

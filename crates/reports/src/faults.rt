@@ -1,13 +1,13 @@
 ghost use Rattle.std.specs.Prelude.{◌≡◌, true};
 ghost use Rattle.agent_conf.specs.LoadFaults.{is_told};
-ghost use Rattle.agent_main.specs.CommandFaults.{IsFaultOf};
+ghost use Rattle.reports.specs.CommandFaults.{IsFaultOf};
 
-use crate::fault_lines::fault_line;
+use crate::lines::fault_line;
 use agent_conf::LoadFault;
 use std::alloc::Global;
 use waf_plain::{Bytes, NoMemory};
 
-// Why a command comes to no result.
+/// Why a command comes to no result.
 #[derive(Debug, PartialEq, Drop)]
 pub enum CommandFault {
     // the line of a fault in what was read
@@ -18,7 +18,7 @@ pub enum CommandFault {
 
 impl From<NoMemory> for CommandFault {
     ghost use Rattle.std.specs.Prelude.{◌≡◌};
-    ghost use Rattle.agent_main.specs.declared.command_fault.CommandFault.TheVariants.{NoMemory as no_memory};
+    ghost use Rattle.reports.specs.declared.faults.CommandFault.TheVariants.{NoMemory as no_memory};
 
     ghost from_gives = { λ _ e. e ≡ no_memory };
 
@@ -27,7 +27,7 @@ impl From<NoMemory> for CommandFault {
     }
 }
 
-// What a fault of loading comes to, under the name of what was loaded.
+/// What a fault of loading comes to, under the name of what was loaded.
 pub fn command_fault(alloc: Global, name: &[u8], fault: LoadFault) -> CommandFault
     ensures { IsFaultOf result name.now fault }
 {

@@ -1,12 +1,12 @@
 ghost use Rattle.std.specs.Prelude.{◌≡◌, ◌++◌, codes, decimal, IfOk, OnOk};
-ghost use Rattle.agent_main.specs.FaultLines.{after, compile_line, fault_line, line_of, memory_line, place};
+ghost use Rattle.reports.specs.FaultLines.{after, compile_line, fault_line, line_of, memory_line, place};
 
 use agent_conf::LoadFault;
 use sec_compile::CompileFault;
 use std::alloc::Global;
 use waf_plain::{Bytes, NoMemory};
 
-// The line of a fault in what is loaded under a name.
+/// The line of a fault in what is loaded under a name.
 pub fn fault_line(alloc: Global, name: &[u8], fault: &LoadFault) -> Result<Bytes, NoMemory>
     ensures { IfOk result (λ line. line ≡ fault_line name.now fault.now) }
 {
@@ -30,7 +30,7 @@ pub fn fault_line(alloc: Global, name: &[u8], fault: &LoadFault) -> Result<Bytes
     }
 }
 
-// A rule with a pattern that has no reading is told by its identifier.
+/// A rule with a pattern that has no reading is told by its identifier.
 fn compile_line(alloc: Global, fault: &CompileFault) -> Result<Bytes, NoMemory>
     ensures { IfOk result (λ line. line ≡ compile_line fault.now) }
 {
@@ -56,7 +56,7 @@ fn memory_line(alloc: Global) -> Result<Bytes, NoMemory>
     Bytes::copy(alloc, b"NoMemory\n")
 }
 
-// A file, its line where that is not 0, a kind, and the word where there is one.
+/// A file, its line where that is not 0, a kind, and the word where there is one.
 fn line_of(
     alloc: Global,
     file: &[u8],
@@ -74,7 +74,7 @@ fn line_of(
     Ok(line)
 }
 
-// A file, and a line of it where that is not 0.
+/// A file, and a line of it where that is not 0.
 fn place(alloc: Global, file: &[u8], line: u32) -> Result<Bytes, NoMemory>
     ensures { IfOk result (λ text. text ≡ place file.now line) }
 {

@@ -2,7 +2,7 @@
 use Rattle.std.specs.Prelude.{◌≡◌, ◌⊎◌, ℕ, List, ◌++◌, Option, Result, Ok, Err}
 use Rattle.waf_io.specs.Counts.{Rose}
 use Rattle.waf_io.specs.Sink.{Adds}
-use Rattle.agent_main.specs.declared.exit_status.TheConstants.{DONE, REFUSED, READ_FAULT, WRITE_FAULT, OUT_OF_MEMORY}
+use Rattle.reports.specs.declared.exit_status.TheConstants.{DONE, REFUSED, READ_FAULT, WRITE_FAULT, OUT_OF_MEMORY}
 
 -- some prefix of the bytes was added
 abbrev pub AddsPrefix : Option (List ℕ) → List ℕ → Option (List ℕ) → Type 0

@@ -2,9 +2,9 @@
 use Rattle.std.specs.Prelude.{◌≡◌, ℕ, List, true, Result, Ok, Err}
 use Rattle.agent_conf.specs.declared.load_fault.LoadFault.{LoadFault}
 use Rattle.agent_conf.specs.LoadFaults.{is_read_fault, is_told}
-use Rattle.agent_main.specs.FaultLines.{fault_line}
-use Rattle.agent_main.specs.declared.command_fault.CommandFault as command
-use Rattle.agent_main.specs.declared.command_fault.CommandFault.TheVariants as faults
+use Rattle.reports.specs.FaultLines.{fault_line}
+use Rattle.reports.specs.declared.faults.CommandFault as command
+use Rattle.reports.specs.declared.faults.CommandFault.TheVariants as faults
 
 -- what was read, or the line of the fault; a read that failed and no memory say nothing
 abbrev pub Tells : {A : Type 0} → Result A command.CommandFault → Result A (List ℕ) → Type 0

@@ -1,0 +1,5 @@
+pub mod Closings
+pub mod Given
+pub mod Lists
+pub mod Owning
+pub mod Visits

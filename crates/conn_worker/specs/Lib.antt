@@ -1,0 +1,5 @@
+pub mod Entries
+pub mod Desk
+pub mod Serving
+pub mod Served
+pub mod Worked

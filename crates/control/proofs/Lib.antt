@@ -1,0 +1,4 @@
+mod Writing
+mod Counts
+mod Orders
+mod Reloads

@@ -1,0 +1,4 @@
+pub mod Turns
+pub mod Written
+pub mod Counting
+pub mod Controlled
