@@ -1,4 +1,5 @@
 pub mod Places
-pub mod Due
-pub mod RowTests
+pub mod Numbers
+pub mod Deadlines
+pub mod Stages
 pub mod Values

@@ -1,51 +1,50 @@
 -- The first item that passes a test, by its place.
-use Rattle.std.proofs.Common.{◌≡◌, ℕ, zero, suc, ◌<◌, Bool, true, false, cond, List, [], ◌∷◌, length, get_or, set, remove, position, find, Option, Some, None, refl, sym, ap, ◌∙◌, inl, inr, arith}
-use Rattle.std.specs.List.{position_or_len}
-use Rattle.std.proofs.lemmas.Bool.{cases_lt, lt-ltb}
-use Rattle.std.proofs.lemmas.List.Folds.{find_at}
-use Rattle.std.proofs.lemmas.List.Quantifiers.{position-Some}
-use Rattle.std.proofs.lemmas.Option.{slice_get_past}
+use Rattle.std.proofs.Common.{◌≡◌, ℕ, zero, suc, ◌+◌, ◌<◌, ◌≤◌, Bool, true, false, cond, List, [], ◌∷◌, length, slice_get, find, count_by, drop, not, Some, None, refl, sym, ap, ◌∙◌, inl, inr, arith}
+use Rattle.std.proofs.lemmas.Bool.{cases_lt}
+use Rattle.std.proofs.lemmas.List.Recursion.{is_count_by}
 use Rattle.hall_core.specs.Rows.{without, changed}
+use Rattle.hall_core.specs.Found.{IsAt}
 
--- x is the first of xs that passes, and stands at i
-pub record IsAt {A : Type 0} (test : A → Bool) (xs : List A) (i : ℕ) (x : A) : Type 0 where
-  pub found : find test xs ≡ Some x
-  pub passes : test x ≡ true
-  pub left : without test xs ≡ remove xs i
-  pub change : (f : A → A) → changed test f xs ≡ set xs i (f x)
+-- one item more is counted
+pub counted_on : (running next at before after all add : ℕ) → running ≤ at → running + before ≡ all → before ≡ add + after → next ≡ running + add → add ≤ 1 → (next ≤ at + 1) × (next + after ≡ all)
+counted_on running next at before after all add small so_far item is le = (omega arith, omega arith)
 
 module _ {A : Type 0} where
-  at : (test : A → Bool) (xs : List A) (i : ℕ) (x : A) → i < length xs → x ≡ get_or xs i x → test x ≡ true → ((k : ℕ) → k < i → test (get_or xs k x) ≡ false) → IsAt test xs i x
-  at test [] i x lt e t before = absurd (omega arith)
-  at test (y ∷ ys) zero x lt e t before = let ty : test y ≡ true = ap test (sym e) ∙ t in record {
-    found = ap (λ b. cond b (Some y) (find test ys)) ty ∙ ap Some (sym e);
-    passes = t;
-    left = ap (λ b. cond b ys (y ∷ without test ys)) ty;
-    change = λ f. ap (λ b. cond b (f y ∷ ys) (y ∷ changed test f ys)) ty ∙ ap (λ z. f z ∷ ys) (sym e);
-  }
-  at test (y ∷ ys) (suc i) x lt e t before =
-      let ty : test y ≡ false = before 0 (omega arith) in
-      let r = at test ys i x (omega arith) e t (λ k less. before (suc k) (omega arith)) in record {
+  -- none of the first n passes
+  abbrev pub NoneOf : (A → Bool) → ℕ → List A → Type 0
+  NoneOf test n xs = (k : ℕ) (y : A) → k < n → slice_get xs k ≡ Some y → test y ≡ false
+
+  pub first_at : (test : A → Bool) (xs : List A) (i : ℕ) (x : A) → slice_get xs i ≡ Some x → test x ≡ true → ((k : ℕ) (y : A) → k < i → slice_get xs k ≡ Some y → test y ≡ false) → IsAt test xs i x
+  first_at test [] i x e t before = absurd (let k : None ≡ Some x = e in cc)
+  first_at test (y ∷ ys) zero x e t before =
+      let is : y ≡ x = (let k : Some y ≡ Some x = e in cc) in let ty : test y ≡ true = ap test is ∙ t in record {
+        here = e;
+        found = ap (λ b. cond b (Some y) (find test ys)) ty ∙ ap Some is;
+        passes = t;
+        left = ap (λ b. cond b ys (y ∷ without test ys)) ty;
+        change = λ f. ap (λ b. cond b (f y ∷ ys) (y ∷ changed test f ys)) ty ∙ ap (λ z. f z ∷ ys) is;
+      }
+  first_at test (y ∷ ys) (suc i) x e t before =
+      let ty : test y ≡ false = before 0 y (omega arith) refl in
+      let r = first_at test ys i x e t (λ k z less at. before (suc k) z (omega arith) at) in record {
+        here = e;
         found = ap (λ b. cond b (Some y) (find test ys)) ty ∙ r.found;
         passes = t;
         left = ap (λ b. cond b ys (y ∷ without test ys)) ty ∙ ap (λ l. y ∷ l) r.left;
         change = λ f. ap (λ b. cond b (f y ∷ ys) (y ∷ changed test f ys)) ty ∙ ap (λ l. y ∷ l) (r.change f);
       }
 
-  -- of what a search for the place told
-  pub is_at : (test : A → Bool) (xs l : List A) (p : Option ℕ) (i : ℕ) (x : A) → p ≡ position test l → l ≡ xs → p ≡ Some i → x ≡ get_or xs i x → IsAt test xs i x
-  is_at test xs l p i x e same some x_is =
-      let h = position-Some test xs i x (ap (position test) (sym same) ∙ (sym e ∙ some)) in
-      at test xs i x h.0 x_is (ap test x_is ∙ h.1) h.2
+  pub none_passes : (test : A → Bool) (xs : List A) → ((k : ℕ) (y : A) → slice_get xs k ≡ Some y → test y ≡ false) → find test xs ≡ None
+  none_passes test [] h = refl
+  none_passes test (y ∷ ys) h = ap (λ b. cond b (Some y) (find test ys)) (h 0 y refl) ∙ none_passes test ys (λ k. h (suc k))
 
-  pub is_within : (test : A → Bool) (xs l : List A) (p : Option ℕ) (i : ℕ) (d : A) → p ≡ position test l → l ≡ xs → p ≡ Some i → i < length xs
-  is_within test xs l p i d e same some = (position-Some test xs i d (ap (position test) (sym same) ∙ (sym e ∙ some))).0
-
-  none_passes : (test : A → Bool) (xs : List A) → position test xs ≡ None → find test xs ≡ None
-  none_passes test xs e = let n = position_or_len test xs in elim (cases_lt n (length xs)) [
-    | inl less ↦ let f : Some n ≡ None = sym (ap (λ b. cond b (Some n) None) (lt-ltb n (length xs) less)) ∙ e in cc
-    | inr more ↦ find_at test xs ∙ slice_get_past xs n more
-  ]
+  pub found_place : (test : A → Bool) (xs : List A) (x : A) → find test xs ≡ Some x → (i : ℕ) × (slice_get xs i ≡ Some x)
+  found_place test [] x e = absurd (let k : None ≡ Some x = e in cc)
+  found_place test (y ∷ ys) x e = go (test y) refl (found_place test ys x)
+    where
+      go : (b : Bool) → test y ≡ b → (find test ys ≡ Some x → (i : ℕ) × (slice_get ys i ≡ Some x)) → (i : ℕ) × (slice_get (y ∷ ys) i ≡ Some x)
+      go true t rest = (0, sym (ap (λ b. cond b (Some y) (find test ys)) t) ∙ e)
+      go false t rest = let r = rest (sym (ap (λ b. cond b (Some y) (find test ys)) t) ∙ e) in (suc r.0, r.1)
 
   pub all_stay : (test : A → Bool) (xs : List A) → find test xs ≡ None → without test xs ≡ xs
   all_stay test [] e = refl
@@ -55,5 +54,43 @@ module _ {A : Type 0} where
       go true t rest = let f : Some x ≡ None = sym (ap (λ b. cond b (Some x) (find test xs)) t) ∙ e in cc
       go false t rest = ap (λ b. cond b xs (x ∷ without test xs)) t ∙ ap (λ l. x ∷ l) (rest (sym (ap (λ b. cond b (Some x) (find test xs)) t) ∙ e))
 
-  pub is_none : (test : A → Bool) (xs l : List A) (p : Option ℕ) → p ≡ position test l → l ≡ xs → p ≡ None → find test xs ≡ None
-  is_none test xs l p e same none = none_passes test xs (ap (position test) (sym same) ∙ (sym e ∙ none))
+  pub one_more : (test : A → Bool) (n : ℕ) (xs : List A) (x : A) → NoneOf test n xs → slice_get xs n ≡ Some x → test x ≡ false → NoneOf test (n + 1) xs
+  one_more test n xs x none at t k y lt e = elim (cases_lt k n) [
+    | inl less ↦ none k y less e
+    | inr ge ↦ (let same : k ≡ n = omega arith in let both : Some y ≡ Some x = sym e ∙ (ap (slice_get xs) same ∙ at) in let is : y ≡ x = cc in ap test is ∙ t)
+  ]
+
+  -- how many pass, from item to item
+  count : (A → Bool) → List A → ℕ
+  count test [] = 0
+  count test (x ∷ xs) = cond (test x) (1 + count test xs) (count test xs)
+
+  count_is : (test : A → Bool) (xs : List A) → count test xs ≡ count_by test xs
+  unfolding count
+  count_is test xs = is_count_by (count test) test refl (λ x xs. refl) xs
+
+  dropped : (test : A → Bool) (xs : List A) (i : ℕ) (x : A) → slice_get xs i ≡ Some x → count test (drop i xs) ≡ cond (test x) 1 0 + count test (drop (suc i) xs)
+  unfolding count
+  dropped test [] i x e = absurd (let k : None ≡ Some x = e in cc)
+  dropped test (y ∷ ys) zero x e = let is : y ≡ x = (let k : Some y ≡ Some x = e in cc) in go (test y) refl (sym (ap test is))
+    where
+      go : (b : Bool) → test y ≡ b → test x ≡ test y → cond (test y) (1 + count test ys) (count test ys) ≡ cond (test x) 1 0 + count test ys
+      go true t u = let v : test x ≡ true = u ∙ t in rw (t, v) refl
+      go false t u = let v : test x ≡ false = u ∙ t in rw (t, v) (omega arith)
+  dropped test (y ∷ ys) (suc i) x e = dropped test ys i x e
+
+  both : (test : A → Bool) (xs : List A) → count test xs + count (λ x. not (test x)) xs ≡ length xs
+  unfolding count
+  both test [] = refl
+  both test (x ∷ xs) = go (test x) (both test xs)
+    where
+      go : (b : Bool) → count test xs + count (λ x. not (test x)) xs ≡ length xs
+          → cond b (1 + count test xs) (count test xs) + cond (not b) (1 + count (λ x. not (test x)) xs) (count (λ x. not (test x)) xs) ≡ suc (length xs)
+      go true r = omega arith
+      go false r = omega arith
+
+  pub count_drop : (test : A → Bool) (xs : List A) (i : ℕ) (x : A) → slice_get xs i ≡ Some x → count_by test (drop i xs) ≡ cond (test x) 1 0 + count_by test (drop (i + 1) xs)
+  count_drop test xs i x e = let next : suc i ≡ i + 1 = omega arith in sym (count_is test (drop i xs)) ∙ (dropped test xs i x e ∙ ap (λ n. cond (test x) 1 0 + n) (count_is test (drop (suc i) xs) ∙ ap (λ n. count_by test (drop n xs)) next))
+
+  pub count_both : (test : A → Bool) (xs : List A) → count_by test xs + count_by (λ x. not (test x)) xs ≡ length xs
+  count_both test xs = let a = both test xs in let b = count_is test xs in let c = count_is (λ x. not (test x)) xs in omega arith

@@ -3,7 +3,8 @@ pub mod State
 pub mod Shard
 pub mod Step
 pub mod Acted
-pub mod Least
+pub mod Found
+pub mod Deadlines
 pub mod Kept
 pub mod Promised
 pub mod Totals

@@ -26,7 +26,7 @@ mod hall;
 mod laws;
 mod object;
 mod rows;
-mod scan;
+mod search;
 mod turns;
 
 pub use calls::{Call, Claim, Entry, Expiry, Reply, Ticket};

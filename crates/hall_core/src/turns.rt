@@ -6,9 +6,7 @@ ghost use Rattle.hall_core.specs.declared.calls.Reply.{Reply};
 
 use crate::calls::{Claim, Entry, Expiry, Ticket};
 use crate::hall::Hall;
-use crate::row::{Row, Stage};
-use crate::rows::{claim_next, claim_waiting, park_running, remove_running};
-use crate::scan::{count_parked, count_running, place_of_key};
+use crate::rows::Rows;
 use crate::{Counts, Key};
 use std::alloc::Global;
 use waf_plain::NoMemory;
@@ -18,7 +16,7 @@ impl<P> Hall<P> {
     pub fn new(alloc: Global, shard: u32, capacity: u32) -> Result<Hall<P>, NoMemory>
         ensures { IfOk result (λ hall. IsNew shard capacity hall) }
     {
-        let rows = Vec::with_capacity(alloc, capacity as usize)?;
+        let rows = Rows::new(alloc, capacity)?;
         Ok(Hall {
             shard,
             capacity,
@@ -32,22 +30,18 @@ impl<P> Hall<P> {
         ensures reply { allows self.old (Call.Enter key) (Reply.OfEnter result) }
         ensures state { self.new ≡ after self.old (Call.Enter key) (Reply.OfEnter result) }
     {
-        if let Some(place) = place_of_key(&self.rows, &key) {
-            return Entry::IdInUse(self.rows[place].number);
+        if let Some(at) = self.rows.place_of_key(&key) {
+            return Entry::IdInUse(self.rows.get(at).number);
         }
-        if self.rows.len() == self.capacity as usize {
-            return Entry::Full(self.rows.len() as u64);
+        if self.rows.len() == self.capacity {
+            return Entry::Full(u64::from(self.capacity));
         }
         if self.given == u64::MAX {
             return Entry::Worn(self.given);
         }
         self.given += 1;
         let number = self.given;
-        self.rows.push_reserved(Row {
-            key,
-            number,
-            stage: Stage::Running,
-        });
+        self.rows.enter(key, number);
         Entry::Entered(Ticket {
             shard: self.shard,
             number,
@@ -59,7 +53,7 @@ impl<P> Hall<P> {
         requires running { may self.old (Call.Park ticket deadline value) }
         ensures { self.new ≡ after self.old (Call.Park ticket deadline value) Reply.OfPark }
     {
-        park_running(&mut self.rows, ticket.number, deadline, value);
+        self.rows.park(ticket.number, deadline, value);
     }
 
     /// Takes the ticket's row away.
@@ -67,7 +61,7 @@ impl<P> Hall<P> {
         requires running { may self.old (Call.Leave ticket) }
         ensures { self.new ≡ after self.old (Call.Leave ticket) Reply.OfLeave }
     {
-        remove_running(&mut self.rows, ticket.number);
+        self.rows.leave(ticket.number);
     }
 
     /// Claims what is parked under a key.
@@ -75,7 +69,7 @@ impl<P> Hall<P> {
         ensures reply { allows self.old (Call.Resume key.now) (Reply.OfResume result) }
         ensures state { self.new ≡ after self.old (Call.Resume key.now) (Reply.OfResume result) }
     {
-        claim_waiting(&mut self.rows, key)
+        self.rows.resume(key)
     }
 
     /// Claims what is due first at a moment.
@@ -83,16 +77,17 @@ impl<P> Hall<P> {
         ensures reply { allows self.old (Call.Expire now) (Reply.OfExpire result) }
         ensures state { self.new ≡ after self.old (Call.Expire now) (Reply.OfExpire result) }
     {
-        claim_next(&mut self.rows, now)
+        self.rows.expire(now)
     }
 
     /// How many rows there are.
     pub fn counts(&self) -> Counts
         ensures { allows self.now Call.Count (Reply.OfCount result) }
     {
+        let running = self.rows.count_running();
         Counts {
-            running: count_running(&self.rows) as u64,
-            parked: count_parked(&self.rows) as u64,
+            running: u64::from(running),
+            parked: u64::from(self.rows.len() - running),
         }
     }
 }

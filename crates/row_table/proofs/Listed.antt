@@ -1,5 +1,5 @@
 -- The rows at given places, and what a change of one place does to them.
-use Rattle.std.proofs.Common.{◌≡◌, ◌≢◌, ℕ, zero, suc, ◌<◌, List, [], ◌∷◌, ◌++◌, set, remove, slice_get, length, Option, Some, None, refl, sym, ap, ◌∙◌, arith}
+use Rattle.std.proofs.Common.{◌≡◌, ◌≢◌, ℕ, zero, suc, ◌<◌, ◌≤◌, List, [], ◌∷◌, ◌++◌, set, remove, slice_get, length, Option, Some, None, refl, sym, ap, ◌∙◌, arith}
 use Rattle.row_table.specs.Table.{row_at, before, rows_at}
 use Rattle.row_table.specs.Keeping.{EachOnce}
 use Rattle.row_table.proofs.Places.{row_other, row_same}
@@ -48,3 +48,27 @@ module _ {A : Type 0} where
       ap (λ o. before o (rows_at (set rows p (Some y)) ps)) (row_other rows p q (Some y) apart ∙ x.1)
       ∙ (ap (λ l. x.0 ∷ l) (rows_change rows ps i p y (λ j. taken (suc j)) (λ j k r a b. (let z = once (suc j) (suc k) r a b in omega arith)) at lt)
       ∙ sym (ap (λ o. set (before o (rows_at rows ps)) (suc i) y) x.1))
+
+  -- each row that is listed stands at a place
+  pub listed_length : (rows : List (Option A)) (ps : List ℕ) → Taken rows ps → length (rows_at rows ps) ≡ length ps
+  listed_length rows [] taken = refl
+  listed_length rows (p ∷ ps) taken = let x = taken 0 p refl in
+      ap (λ o. length (before o (rows_at rows ps))) x.1 ∙ ap suc (listed_length rows ps (λ j. taken (suc j)))
+
+  before_le : (o : Option A) (xs : List A) (n : ℕ) → length xs ≤ n → length (before o xs) ≤ suc n
+  before_le None xs n le = omega arith
+  before_le (Some x) xs n le = omega arith
+
+  pub listed_le : (rows : List (Option A)) (ps : List ℕ) → length (rows_at rows ps) ≤ length ps
+  listed_le rows [] = omega arith
+  listed_le rows (p ∷ ps) = before_le (row_at rows p) (rows_at rows ps) (length ps) (listed_le rows ps)
+
+  before_placed : (rows : List (Option A)) (p : ℕ) (o : Option A) (xs : List A) (i : ℕ) (x : A) → row_at rows p ≡ o → slice_get (before o xs) i ≡ Some x
+      → ((j : ℕ) → slice_get xs j ≡ Some x → (q : ℕ) × (row_at rows q ≡ Some x)) → (q : ℕ) × (row_at rows q ≡ Some x)
+  before_placed rows p None xs i x is e rest = rest i e
+  before_placed rows p (Some y) xs zero x is e rest = (p, is ∙ e)
+  before_placed rows p (Some y) xs (suc i) x is e rest = rest i e
+
+  pub placed : (rows : List (Option A)) (ps : List ℕ) (i : ℕ) (x : A) → slice_get (rows_at rows ps) i ≡ Some x → (q : ℕ) × (row_at rows q ≡ Some x)
+  placed rows [] i x e = absurd (let k : None ≡ Some x = e in cc)
+  placed rows (p ∷ ps) i x e = before_placed rows p (row_at rows p) (rows_at rows ps) i x refl e (λ j. placed rows ps j x)

@@ -1,5 +1,5 @@
 -- Lists read at a place, and lists without one item.
-use Rattle.std.proofs.Common.{◌≡◌, ◌≢◌, ℕ, zero, suc, ◌⊎◌, ◌<◌, List, [], ◌∷◌, ◌++◌, set, remove, slice_get, length, Option, Some, None, refl, sym, ap, inl, inr, ⊎_elim, arith, get_or, get_or-set_other, get_or-set_same}
+use Rattle.std.proofs.Common.{◌≡◌, ◌≢◌, ℕ, zero, suc, ◌⊎◌, ◌<◌, List, [], ◌∷◌, ◌++◌, set, remove, slice_get, slice_index_or, length, Option, Some, None, refl, sym, ap, inl, inr, ⊎_elim, arith, get_or, get_or-set_other, get_or-set_same}
 use Rattle.row_table.specs.Table.{row_at}
 
 -- where an item stood that stands at j without that at i
@@ -28,6 +28,13 @@ shifted zero zero n = absurd (n refl)
 shifted zero (suc k) n = (k, refl)
 shifted (suc i) zero n = (zero, refl)
 shifted (suc i) (suc k) n = let r = shifted i k (λ e. n (ap suc e)) in (suc r.0, ap suc r.1)
+
+pub shift_less : (i j k : ℕ) → j < k → shift i j < shift i k
+unfolding shift
+shift_less zero j k lt = omega arith
+shift_less (suc i) j zero lt = absurd (omega arith)
+shift_less (suc i) zero (suc k) lt = omega arith
+shift_less (suc i) (suc j) (suc k) lt = let r = shift_less i j k (omega arith) in omega arith
 
 module _ {A : Type 0} where
   pub at_snoc : (xs : List A) (a x : A) (j : ℕ) → slice_get (xs ++ a ∷ []) j ≡ Some x → (slice_get xs j ≡ Some x) ⊎ ((j ≡ length xs) × (a ≡ x))
@@ -75,3 +82,13 @@ pub item_read : {A : Type 0} (xs : List A) (i : ℕ) (x : A) → i < length xs �
 item_read [] i x lt e = absurd (omega arith)
 item_read (y ∷ ys) zero x lt e = ap Some (sym e)
 item_read (y ∷ ys) (suc i) x lt e = item_read ys i x (omega arith) e
+
+pub item_within : {A : Type 0} (xs : List A) (i : ℕ) → i < length xs → (x : A) × (slice_get xs i ≡ Some x)
+item_within [] i lt = absurd (omega arith)
+item_within (y ∷ ys) zero lt = (y, refl)
+item_within (y ∷ ys) (suc i) lt = item_within ys i (omega arith)
+
+pub item_is : (xs : List ℕ) (i p : ℕ) → slice_get xs i ≡ Some p → slice_index_or xs i 0 ≡ p
+item_is [] i p e = absurd (let k : None ≡ Some p = e in cc)
+item_is (y ∷ ys) zero p e = (let k : Some y ≡ Some p = e in cc)
+item_is (y ∷ ys) (suc i) p e = item_is ys i p e

@@ -1,5 +1,5 @@
 -- A table: what each place holds, and the places that hold a row, in the order in which their rows entered.
-use Rattle.std.specs.Prelude.{ℕ, List, [], ◌∷◌, ◌++◌, Option, Some, None, remove, slice_index_or, slice_set}
+use Rattle.std.specs.Prelude.{◌≡◌, ℕ, List, [], ◌∷◌, ◌++◌, Option, Some, None, remove, slice_get, slice_index_or, slice_set}
 
 pub record Table (T : Type 0) : Type 0 where
   pub rows : List (Option T)
@@ -39,3 +39,8 @@ module _ {T : Type 0} where
   -- with another row in the place of that one
   abbrev pub with_row : Table T → ℕ → T → Table T
   with_row t at row = record { rows = slice_set t.rows (place_at t at) (Some row); order = t.order }
+
+  -- the row that stands there in the list was changed so, in its place
+  abbrev pub Changed : Table T → ℕ → (T → T → Type 0) → Table T → Type 0
+  Changed t at changes u = (row changed : T) × (slice_get (listed t) at ≡ Some row) × changes row changed
+      × (u ≡ with_row t at changed) × (listed u ≡ slice_set (listed t) at changed)

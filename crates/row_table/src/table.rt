@@ -1,6 +1,6 @@
 //! The table.
-ghost use Rattle.std.specs.Prelude.{◌≡◌, ◌<◌, ◌++◌, ◌∷◌, [], IfOk, None, Some, length, nat_eq, remove, replicate, slice_get, slice_set};
-ghost use Rattle.row_table.specs.Table.{listed, row_at, with_entered, with_row, without_row};
+ghost use Rattle.std.specs.Prelude.{◌≡◌, ℕ, ◌<◌, ◌≤◌, ◌++◌, ◌∷◌, [], IfOk, None, Some, length, nat_eq, remove, replicate, slice_get, slice_set};
+ghost use Rattle.row_table.specs.Table.{Changed, listed, row_at, with_entered, with_row, without_row};
 
 use std::alloc::Global;
 use std::marker::Model;
@@ -30,7 +30,9 @@ impl<T> Model for RowTable<T> {
 impl<T> RowTable<T> {
     /// How many rows there are.
     pub fn len(&self) -> u32
-        ensures { result ≡ length self.now.order }
+        ensures count { result ≡ length self.now.order }
+        ensures listed { result ≡ length (listed self.now) }
+        ensures within { result ≤ length self.now.rows }
     {
         self.order.len() as u32
     }
@@ -45,15 +47,25 @@ impl<T> RowTable<T> {
     /// The place of the row that stands there in the list, counted from 0.
     pub fn place(&self, at: u32) -> u32
         requires { at < length self.now.order }
-        ensures { slice_get self.now.order at ≡ Some result }
+        ensures place { slice_get self.now.order at ≡ Some result }
+        ensures row { row_at self.now.rows result ≡ slice_get (listed self.now) at }
     {
         self.order[at as usize]
+    }
+
+    /// The row that stands there in the list, counted from 0.
+    pub fn get(&self, at: u32) -> &T
+        requires { at < length (listed self.now) }
+        ensures { slice_get (listed self.now) at ≡ Some result.now }
+    {
+        self.row(self.place(at))
     }
 
     /// The row at a place that holds one.
     pub fn row(&self, place: u32) -> &T
         requires { (x : T) × (row_at self.now.rows place ≡ Some x) }
-        ensures { row_at self.now.rows place ≡ Some result.now }
+        ensures row { row_at self.now.rows place ≡ Some result.now }
+        ensures listed { (at : ℕ) × (slice_get (listed self.now) at ≡ Some result.now) }
     {
         match &self.rows[place as usize] {
             Some(row) => row,
@@ -63,7 +75,7 @@ impl<T> RowTable<T> {
 
     /// Puts a row at a free place, after all others in the list, and gives the place.
     pub fn enter(&mut self, row: T) -> u32
-        requires { length self.old.order < length self.old.rows }
+        requires { length (listed self.old) < length self.old.rows }
         ensures free { (result < length self.old.rows) × (row_at self.old.rows result ≡ None) }
         ensures table { self.new ≡ with_entered self.old result row }
         ensures listed { listed self.new ≡ listed self.old ++ row ∷ [] }
@@ -102,16 +114,24 @@ impl<T> RowTable<T> {
         put(held, row);
         old
     }
-}
 
-impl<T: Drop> RowTable<T> {
+    /// Changes the row that stands there in the list, in its place, by a value that is handed on.
+    pub fn change<V, F: FnOnce(T, V) -> T>(&mut self, at: u32, value: V, change: F)
+        requires within { at < length self.old.order }
+        requires callable { (row : T) → slice_get (listed self.old) at ≡ Some row → F.pre change row value }
+        ensures { Changed self.old at (λ row changed. F.post change row value changed) self.new }
+    {
+        let place = self.place(at);
+        change_held(&mut self.rows[place as usize], value, change);
+    }
+
     /// A table of so many places, all of which are free.
     pub fn new(alloc: Global, capacity: u32) -> Result<RowTable<T>, NoMemory>
         ensures { IfOk result (λ t. (t.rows ≡ replicate capacity None) × (t.order ≡ [])) }
     {
         let order = Vec::with_capacity(alloc, capacity as usize)?;
-        let mut rows = Vec::with_capacity(alloc, capacity as usize)?;
         let mut free = Vec::with_capacity(alloc, capacity as usize)?;
+        let mut rows = Vec::with_capacity(alloc, capacity as usize)?;
         for place in 0..capacity {
             rows.push_reserved(None);
             free.push_reserved(place);
@@ -140,4 +160,13 @@ fn take_out<T>(place: &mut Option<T>) -> T
         Some(row) => row,
         None => unreachable!(),
     }
+}
+
+fn change_held<T, V, F: FnOnce(T, V) -> T>(place: &mut Option<T>, value: V, change: F)
+    requires held { (x : T) × (place.old ≡ Some x) }
+    requires callable { (x : T) → place.old ≡ Some x → F.pre change x value }
+    ensures { (x y : T) × (place.old ≡ Some x) × F.post change x value y × (place.new ≡ Some y) }
+{
+    let row = take_out(place);
+    put(place, change(row, value));
 }

@@ -5,6 +5,7 @@ pub mod Tickets
 pub mod Standing
 pub mod Waiting
 pub mod Meeting
+pub mod Places
 pub mod Turning
 pub mod Hearing
 pub mod Calling

@@ -17,7 +17,7 @@ use Rattle.conn_core.specs.Calls.{kind_at}
 use Rattle.conn_core.specs.Trace.{held_by}
 use Rattle.hall_core.specs.Kept.{running}
 use Rattle.hall_core.specs.State as table
-use Rattle.hall_core.proofs.Places.{IsAt}
+use Rattle.world_core.proofs.Places.{IsAt}
 use Rattle.conn_core.specs.declared.seen.Seen.{Seen}
 use Rattle.conn_core.specs.declared.seen.Seen.TheVariants as shown
 use Rattle.conn_core.specs.Stands.{Holds, Stands, is_open, listens, opening}

@@ -1,8 +1,8 @@
-use Rattle.std.proofs.Common.{◌≡◌, ◌<◌, ◌∙◌, [], ◌∷◌, ◌++◌, length, length-set, option_to_list, slice_set, Some, None, sym, ap, subst, arith}
+use Rattle.std.proofs.Common.{rules, ◌≡◌, ◌<◌, ◌∙◌, [], ◌∷◌, ◌++◌, length, length-set, option_to_list, slice_set, Some, None, sym, ap, subst, arith}
 use Rattle.row_table.specs.Table.{row_at, rows_at}
 use Rattle.row_table.specs.Keeping.{IsTable}
 use Rattle.row_table.proofs.Places.{at_last, row_read, row_same}
-use Rattle.row_table.proofs.Listed.{rows_snoc, rows_unseen}
+use Rattle.row_table.proofs.Listed.{listed_length, rows_snoc, rows_unseen}
 use Rattle.row_table.proofs.Kept.{entered, was_away}
 use Rattle.row_table.proofs.table.RowTable.enter.Goals as goal
 
@@ -47,3 +47,10 @@ returns-clause-listed g c =
     ∙ (rows_snoc (slice_set rows p (Some c.args.row)) order p c.args.row (row_same rows p (Some c.args.row) e.0)
     ∙ (ap (λ l. l ++ c.args.row ∷ []) (rows_unseen rows order p (Some c.args.row) (was_away rows order c.pop.new.self.items p t))
     ∙ ap (λ v. rows_at v.rows v.order ++ c.args.row ∷ []) c.self.view_is))
+
+pub unreachable-requires : goal.unreachable-requires
+unreachable-requires g c =
+    let t = c.self.invariant.0 in
+    let all = subst (λ v. length (rows_at v.rows v.order) ≡ length v.order) c.self.view_is (listed_length c.self.inside.rows.items c.self.inside.order.items t.taken) in
+    let room : length c.args.self.now.order < length c.args.self.now.rows = (let r = c.requires in omega arith) in
+    search rules

@@ -1,5 +1,5 @@
 use Rattle.std.proofs.Common.{refl}
-use Rattle.hall_core.proofs.Places.{is_at, is_none}
+use Rattle.world_core.proofs.Places.{is_at, is_none}
 use Rattle.world_core.specs.Standing.{is_numbered}
 use Rattle.world_core.specs.Serving.{desk_of}
 use Rattle.world_core.proofs.Turning.{acts, is_there, keeps_at, whole_at}

@@ -1,5 +1,5 @@
 use Rattle.std.proofs.Common.{◌<◌, length, position, refl, sym, ap, ◌∙◌, rules}
-use Rattle.hall_core.proofs.Places.{is_at, is_none}
+use Rattle.world_core.proofs.Places.{is_at, is_none}
 use Rattle.world_core.specs.Standing.{is_numbered}
 use Rattle.world_core.proofs.Growing.{is_within}
 use Rattle.world_core.proofs.Turning.{feeds, is_there, whole_at}

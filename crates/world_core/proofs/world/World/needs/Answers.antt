@@ -1,4 +1,4 @@
-use Rattle.hall_core.proofs.Places.{is_at, is_none}
+use Rattle.world_core.proofs.Places.{is_at, is_none}
 use Rattle.world_core.specs.Standing.{is_numbered}
 use Rattle.world_core.proofs.Turning.{is_there, needs_at}
 use Rattle.world_core.proofs.world.World.needs.Goals as goal

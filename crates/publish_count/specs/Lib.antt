@@ -1,0 +1,4 @@
+pub mod Count
+pub mod Plays
+pub mod Rule
+pub mod View
