@@ -1,3 +1,4 @@
+mod Commands
 mod Counting
 mod Generated
 mod Joined

@@ -8,3 +8,4 @@ pub mod Run
 pub mod Summary
 pub mod Turns
 pub mod Words
+pub mod Commands

@@ -6,6 +6,7 @@
 //! what `generate` prints in `specs/Generate.antt`.
 #![tactic(auto)]
 
+mod agent;
 mod check;
 mod entry;
 mod generate;
@@ -16,8 +17,10 @@ mod once;
 mod playing;
 mod replay;
 mod script;
+mod serve;
 mod summary;
 mod verdicts;
 mod words;
 
+pub use agent::agent_main;
 pub use offline::offline_main;

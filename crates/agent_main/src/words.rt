@@ -1,7 +1,7 @@
 // What is printed for words that no command takes, or that ask for it.
 
 pub const USAGE: &[u8] =
-    b"usage: yefontsila check CONF | once RULES | replay [--plain] CONF | generate SEED COUNT\n";
+    b"usage: yefontsila check CONF | once RULES | replay [--plain] CONF | generate SEED COUNT | serve CONF\n";
 
 pub const VERSION: &[u8] = b"yefontsila 0.1.0-dev\n";
 
@@ -15,6 +15,7 @@ Commands:
   once RULES             Serves the one connection from standard input to standard output, by the rules of a file
   replay [--plain] CONF  Runs the script on standard input over several connections, and prints what each step shows
   generate SEED COUNT    Makes a script of COUNT requests and responses, runs it, and prints what became of them
+  serve CONF             Listens and serves HAProxy; its input takes the lines reload, stats and stop
 
 Arguments:
   CONF     The configuration, a TOML file
@@ -35,4 +36,5 @@ Exit status:
   4  Reading a file or the input failed
   5  Writing failed
   6  Out of memory
+  7  serve: listening, or taking a connection, failed
 ";

@@ -2,7 +2,7 @@
 use Rattle.std.specs.Prelude.{ℕ, List, Some, codes, true}
 use Rattle.clap.specs.Words.{App, Rule, new_app, new_rule, with_rule, with_subcommand}
 use Rattle.clap.specs.declared.builder.action.ArgAction.TheVariants.{SetTrue}
-use Rattle.command_line.specs.declared.names.TheConstants.{CHECK, CONF, COUNT, GENERATE, ONCE, PLAIN, REPLAY, RULES, SEED}
+use Rattle.command_line.specs.declared.names.TheConstants.{CHECK, CONF, COUNT, GENERATE, ONCE, PLAIN, REPLAY, RULES, SEED, SERVE}
 
 -- one word that has to be there
 abbrev pub positional : List ℕ → Rule
@@ -24,6 +24,9 @@ replay = with_rule (with_rule (new_app REPLAY.now) (flag PLAIN.now)) (positional
 abbrev pub generate : App
 generate = with_rule (with_rule (new_app GENERATE.now) (positional SEED.now)) (positional COUNT.now)
 
+abbrev pub serve : App
+serve = with_rule (new_app SERVE.now) (positional CONF.now)
+
 -- no help and no version of clap's own, and a subcommand has to be there
 abbrev pub empty_agent : App
 empty_agent = let app = new_app (codes "agent") in record app {
@@ -37,5 +40,5 @@ empty_agent = let app = new_app (codes "agent") in record app {
 }
 
 abbrev pub agent : App
-agent = with_subcommand (with_subcommand (with_subcommand (with_subcommand empty_agent
-    check.top) once.top) replay.top) generate.top
+agent = with_subcommand (with_subcommand (with_subcommand (with_subcommand (with_subcommand empty_agent
+    check.top) once.top) replay.top) generate.top) serve.top

@@ -7,8 +7,8 @@ use Rattle.command_line.specs.Definition.{agent}
 use Rattle.command_line.specs.Help.{asks_help, asks_version}
 use Rattle.command_line.specs.Numbers.{number_in}
 use Rattle.command_line.specs.declared.command.Command.{Command}
-use Rattle.command_line.specs.declared.command.Command.TheVariants.{Check, Once, Replay, Generate, Help, Version, Other}
-use Rattle.command_line.specs.declared.names.TheConstants.{CHECK, CONF, COUNT, GENERATE, ONCE, PLAIN, REPLAY, RULES, SEED}
+use Rattle.command_line.specs.declared.command.Command.TheVariants.{Check, Once, Replay, Generate, Serve, Help, Version, Other}
+use Rattle.command_line.specs.declared.names.TheConstants.{CHECK, CONF, COUNT, GENERATE, ONCE, PLAIN, REPLAY, RULES, SEED, SERVE}
 use Rattle.command_line.specs.declared.values.TheConstants.{MIN_COUNT, MAX_COUNT}
 
 -- what clap found for a word: it has a value for each that has to be there, and for each flag
@@ -30,7 +30,8 @@ command_named name rows =
     then Replay (bytes_eq (value_of PLAIN.now rows) (codes "true")) (value_of CONF.now rows)
     else (if bytes_eq name GENERATE.now
     then unwrap_or (generate_of (value_of SEED.now rows) (value_of COUNT.now rows)) Other
-    else Other)))
+    else (if bytes_eq name SERVE.now then Serve (value_of CONF.now rows)
+    else Other))))
 
 abbrev pub command_in : Option (List ℕ × List Row) → Command
 command_in None = Other

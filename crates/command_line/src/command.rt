@@ -11,6 +11,8 @@ pub enum Command {
     Replay { plain: bool, conf: Bytes },
     /// `generate SEED COUNT`
     Generate { seed: u64, count: u32 },
+    /// `serve CONF`
+    Serve(Bytes),
     /// What the commands are.
     Help,
     /// Which version this is.

@@ -1,9 +1,9 @@
 ghost use Rattle.std.specs.Prelude.{◌≡◌, IfOk, false, map};
 ghost use Rattle.clap.specs.Words.{FailsBy, app_of, fault_of, rule_of, subcommand_of, subcommand_rows_of};
 ghost use Rattle.clap.specs.declared.builder.command.Command.TheViews.{out-Command as fields_of};
-ghost use Rattle.command_line.specs.Definition.{agent, check, empty_agent, flag, generate, once, positional, replay};
+ghost use Rattle.command_line.specs.Definition.{agent, check, empty_agent, flag, generate, once, positional, replay, serve};
 
-use crate::names::{CHECK, CONF, COUNT, GENERATE, ONCE, PLAIN, REPLAY, RULES, SEED};
+use crate::names::{CHECK, CONF, COUNT, GENERATE, ONCE, PLAIN, REPLAY, RULES, SEED, SERVE};
 use clap::{Arg, ArgAction, ArgMatches, Command, Error};
 use std::alloc::{AllocError, Global};
 
@@ -55,6 +55,13 @@ fn generate_command<'a>(alloc: Global) -> Result<Command<'a>, AllocError>
         .arg(positional(alloc, COUNT))
 }
 
+fn serve_command<'a>(alloc: Global) -> Result<Command<'a>, AllocError>
+    ensures shape { IfOk result (λ c. app_of c ≡ serve) }
+    ensures local { IfOk result (λ c. (fields_of c).has_globals ≡ false) }
+{
+    Command::new(alloc, SERVE).arg(positional(alloc, CONF))
+}
+
 // No help and no version of clap's own, and a subcommand has to be there.
 fn empty_command<'a>(alloc: Global) -> Command<'a>
     ensures shape { app_of result ≡ empty_agent }
@@ -75,7 +82,8 @@ fn agent_command<'a>(alloc: Global) -> Result<Command<'a>, AllocError>
         .subcommand(check_command(alloc)?)?
         .subcommand(once_command(alloc)?)?
         .subcommand(replay_command(alloc)?)?
-        .subcommand(generate_command(alloc)?)
+        .subcommand(generate_command(alloc)?)?
+        .subcommand(serve_command(alloc)?)
 }
 
 // Reads the words by clap.

@@ -1,7 +1,7 @@
 ghost use Rattle.std.specs.Prelude.{◌≡◌, map};
 ghost use Rattle.command_line.specs.Help.{asks_help, asks_version, is_command, is_help_flag};
 
-use crate::names::{CHECK, GENERATE, ONCE, REPLAY};
+use crate::names::{CHECK, GENERATE, ONCE, REPLAY, SERVE};
 
 pub(crate) fn asks_help(words: &[&str]) -> bool
     ensures { result ≡ asks_help (map (λ w. w.now) words.now) }
@@ -31,5 +31,5 @@ fn is_help_flag(word: &str) -> bool
 fn is_command(word: &str) -> bool
     ensures { result ≡ is_command word.now }
 {
-    word == CHECK || word == ONCE || word == REPLAY || word == GENERATE
+    word == CHECK || word == ONCE || word == REPLAY || word == GENERATE || word == SERVE
 }

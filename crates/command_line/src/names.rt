@@ -8,6 +8,8 @@ pub(crate) const REPLAY: &str = "replay";
 
 pub(crate) const GENERATE: &str = "generate";
 
+pub(crate) const SERVE: &str = "serve";
+
 pub(crate) const CONF: &str = "conf";
 
 pub(crate) const RULES: &str = "rules";

@@ -3,7 +3,7 @@ ghost use Rattle.clap.specs.Words.{found_of, rows_of, subcommand_rows_of};
 ghost use Rattle.command_line.specs.Words.{command_in, command_named, generate_of, value_of};
 
 use crate::command::Command;
-use crate::names::{CHECK, CONF, COUNT, GENERATE, ONCE, PLAIN, REPLAY, RULES, SEED};
+use crate::names::{CHECK, CONF, COUNT, GENERATE, ONCE, PLAIN, REPLAY, RULES, SEED, SERVE};
 use crate::numbers::read_number;
 use clap::ArgMatches;
 use std::alloc::Global;
@@ -37,6 +37,8 @@ fn command_named(alloc: Global, name: &str, values: &ArgMatches<'_>) -> Result<C
         }
     } else if name == GENERATE {
         generate_of(value_of(values, SEED), value_of(values, COUNT)).unwrap_or(Command::Other)
+    } else if name == SERVE {
+        Command::Serve(copy_of(alloc, values, CONF)?)
     } else {
         Command::Other
     })

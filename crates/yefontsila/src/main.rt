@@ -1,25 +1,33 @@
-//! The agent: `offline_main` over the system's words, files, input and output.
+//! The agent: `agent_main` over the system's words, files, input, output, sockets and clock.
 #![tactic(auto)]
 
-use agent_main::offline_main;
+use agent_main::agent_main;
 use std::env;
 use std::io::ErrorKind;
 use std::process::ExitCode;
-use waf_io::{ReadSource, RealFiles, WriteSink};
+use waf_io::{OpenGate, ReadSource, RealClock, RealFiles, TcpDoors, WriteSink};
 use waf_plain::{Bytes, NoMemory, Seq};
 
 fn main(rt: HostRuntime) -> ExitCode {
-    ExitCode::from(run(&rt))
-}
-
-fn run(rt: &HostRuntime) -> u8 {
-    let Ok(words) = words(rt) else {
-        return 6;
+    let Ok(words) = words(&rt) else {
+        return ExitCode::from(6);
     };
-    let mut files = RealFiles::new(rt);
+    let mut files = RealFiles::new(&rt);
     let mut input = ReadSource::new(rt.reader());
-    let mut output = WriteSink::new(std::io::writer(rt));
-    offline_main(rt.alloc(), words, &mut files, &mut input, &mut output)
+    let mut output = WriteSink::new(std::io::writer(&rt));
+    let mut doors = TcpDoors::new(&rt);
+    let clock = RealClock::new(&rt);
+    ExitCode::from(agent_main(
+        &rt,
+        rt.alloc(),
+        words,
+        &mut files,
+        &mut input,
+        &mut output,
+        &mut doors,
+        &clock,
+        &OpenGate,
+    ))
 }
 
 // The words after the program's name. Where one of them is not UTF-8 there are none, which no command takes.

@@ -1,10 +1,25 @@
-use Rattle.std.proofs.Common.{◌≡◌, Ok}
-use Rattle.command_line.specs.Words.{command_of}
-use Rattle.command_line.specs.declared.command.Command.TheVariants.{Once}
-use Rattle.agent_main.specs.Listings.{listing_under}
-use Rattle.agent_main.proofs.Tables.{exits_unread}
+use Rattle.std.proofs.Common.{rules}
+use Rattle.agent_main.proofs.Commands.{ran_as, ran_out}
 use Rattle.agent_main.proofs.offline.offline_main.Goals as goal
 
-pub returns-clause-served : goal.returns-clause-served
-returns-clause-served g c =
-    exits_unread (g.F.Files.content c.args.files.now) (λ name. command_of c.args.words ≡ Once name) (λ told name rules. listing_under told name ≡ Ok rules) _ (g.S.Source.left c.args.input.now) (g.S.Source.ends c.args.input.now) (g.K.Sink.held c.args.output.now)
+pub returns-in-Ok : goal.returns-in-Ok
+returns-in-Ok g c = ran_as _ _ _ _ _ _ (search rules) (record {
+  usage = c.run.ensures.usage;
+  taken = c.run.ensures.taken;
+  help = c.run.ensures.help;
+  version = c.run.ensures.version;
+  checked_all = c.run.ensures.checked;
+  refused = c.run.ensures.refused;
+  served = c.run.ensures.served;
+  replayed = c.run.ensures.replayed;
+  unloaded = c.run.ensures.unloaded;
+  generated = c.run.ensures.generated;
+  untouched = c.run.ensures.untouched;
+  unread = c.run.ensures.unread;
+  once_alone = c.run.ensures.once_alone;
+  read_fault = c.run.ensures.read_fault;
+  write_fault = c.run.ensures.write_fault;
+})
+
+pub returns : goal.returns
+returns g c = ran_out _ _ _

@@ -1,0 +1,4 @@
+mod Ending
+mod PatternsCross
+mod RulesCross
+mod Shares

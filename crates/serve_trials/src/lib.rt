@@ -1,0 +1,9 @@
+//! Tests alone: the agent that serves, over memory with two workers, and over sockets of the loopback.
+#![tactic(auto)]
+
+#[cfg(test)]
+mod frames;
+#[cfg(test)]
+mod serving;
+#[cfg(test)]
+mod turnstile;
