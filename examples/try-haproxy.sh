@@ -2,9 +2,10 @@
 # Starts the agent, a small server and HAProxy with the example configuration on loopback, sends a request that passes
 # and one that is denied, shows both answers and the agent's counts, and ends what it started.
 #
-#   examples/try-haproxy.sh [--unproved]
+#   examples/try-haproxy.sh
 #
-# It takes the ports 8000, 8080 and 9000 of 127.0.0.1.
+# It takes the ports 8000, 8080 and 9000 of 127.0.0.1. Where the agent is not built yet, `yefontsila` proves and builds
+# it first.
 set -u
 top=$(cd "$(dirname "${BASH_SOURCE[0]}")/.." && pwd)
 folder=$(mktemp -d) || exit 1
@@ -33,9 +34,10 @@ await() {
     done
 }
 
-# The agent: its output is appended, so that the file can be emptied below. Its orders come through a pipe that stays open, and its first answer says that it listens.
+# The agent: its output is appended, so that the file can be emptied below. Its orders come through a pipe that stays
+# open, and its first answer says that it listens.
 mkfifo "$folder/orders"
-"$top/yefontsila" "$@" serve "$top/examples/agent.toml" <"$folder/orders" >>"$folder/said" &
+"$top/yefontsila" serve "$top/examples/agent.toml" <"$folder/orders" >>"$folder/said" &
 agent=$!
 started+=("$agent")
 exec 3>"$folder/orders"
