@@ -2,7 +2,7 @@ use case_text::Answer;
 use spop_talk::{Message, read_messages};
 use spop_web::{ArgFault, request_of, response_of};
 use std::alloc::Global;
-use waf_plain::Bytes;
+use waf_plain::{Bytes, Seq};
 use web_parts::{Address, Request, Response};
 
 /// `MESSAGE`, then what its arguments tell: `request` and the application, the identifier, the addresses
@@ -14,13 +14,14 @@ pub fn answer(alloc: Global, given: &[Bytes], out: &mut Answer) {
         return out.malformed();
     };
     match read_messages(alloc, message.as_slice()) {
-        Ok(messages) => put_only(alloc, messages.as_slice(), out),
+        Ok(messages) => put_only(alloc, messages, out),
         Err(_) => out.malformed(),
     }
 }
 
-fn put_only(alloc: Global, messages: &[Message], out: &mut Answer) {
-    let [message] = messages else {
+fn put_only(alloc: Global, messages: Seq<Message>, out: &mut Answer) {
+    let mut messages = messages.into_vec();
+    let (Some(message), None) = (messages.pop(), messages.pop()) else {
         return out.malformed();
     };
     match message.name.as_slice() {
@@ -30,8 +31,8 @@ fn put_only(alloc: Global, messages: &[Message], out: &mut Answer) {
     }
 }
 
-fn put_request(alloc: Global, message: &Message, out: &mut Answer) {
-    match request_of(alloc, &message.args) {
+fn put_request(alloc: Global, message: Message, out: &mut Answer) {
+    match request_of(alloc, message.args) {
         Ok(asked) => {
             out.named(b"request", asked.app.as_slice());
             put_parts(&asked.request, out)
@@ -54,8 +55,8 @@ fn put_parts(request: &Request, out: &mut Answer) {
     out.quoted(request.body.as_slice())
 }
 
-fn put_response(alloc: Global, message: &Message, out: &mut Answer) {
-    match response_of(alloc, &message.args) {
+fn put_response(alloc: Global, message: Message, out: &mut Answer) {
+    match response_of(alloc, message.args) {
         Ok(told) => {
             out.named(b"response", told.app.as_slice());
             out.quoted(told.id.as_slice());

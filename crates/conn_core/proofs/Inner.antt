@@ -1,7 +1,6 @@
 -- What the machine does between two needs.
 use Rattle.std.proofs.Common.{◌≡◌, ◌⊎◌, inl, inr, ℕ, ◌<◌, ◌≤◌, Bool, true, false, cond, not, ◌||◌, Option, Some, None, Ok, Err, List, [], ◌∷◌, ◌++◌, length, drop, map, bytes_eq, refl, sym, ◌∙◌, ap, subst, append_assoc, append-nil, arith}
 use Rattle.std.proofs.lemmas.List.{drop_at}
-use Rattle.std.specs.Option.{IsSomeAnd}
 use Rattle.std.proofs.lemmas.Bool.{ne_eqb, lt-ltb, le-ltb}
 use Rattle.spop_frame.specs.Head.{NotYet, Bad, Whole, head_of}
 use Rattle.spop_frame.specs.declared.frame.Frame.{Frame}
@@ -45,11 +44,6 @@ or_true false = refl
 or_false : (b : Bool) → (b || false) ≡ b
 or_false true = refl
 or_false false = refl
-
--- what is agreed on
-pub agreed_on : (o : Option ℕ) (P : Type 0) → IsSomeAnd o (λ x. P) → (a : ℕ) × (o ≡ Some a) × P
-agreed_on None P h = absurd h
-agreed_on (Some a) P h = (a, refl, h)
 
 module _ {R P : Type 0} where
   pub hears_open : (stage : Stage R P) (ended : Bool) → is_open stage ≡ true → hears stage ended ≡ true

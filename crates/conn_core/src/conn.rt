@@ -12,7 +12,7 @@ use spop_talk::{Action, Message};
 use std::alloc::Global;
 use std::collections::VecDeque;
 use std::marker::Model;
-use waf_plain::{NoMemory, Seq};
+use waf_plain::{Bytes, NoMemory, Seq};
 
 /// One connection, as the agent's side of it. `R` is what stands for a set of rules, `P` a request
 /// that was judged and is parked, `T` the ticket that it is parked under; it holds at most one of
@@ -37,6 +37,8 @@ pub struct Conn<R, P, T> {
     pub(crate) left: VecDeque<Message>,
     pub(crate) actions: Seq<Action>,
     pub(crate) farewell: Farewell,
+    // the room of what was written last, for the next ACK
+    pub(crate) spare: Bytes,
     pub(crate) broken: bool,
 }
 
@@ -83,6 +85,7 @@ impl<R, P, T> Conn<R, P, T> {
             left: VecDeque::new(alloc),
             actions: Seq::new(alloc),
             farewell,
+            spare: Bytes::new(alloc),
             broken: false,
         })
     }

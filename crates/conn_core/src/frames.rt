@@ -1,103 +1,99 @@
-//! A frame that was taken off, by its kind, and the frames that answer it.
-ghost use Rattle.std.specs.Prelude.{◌≡◌, ◌<◌, ◌≤◌, [], false, IfOk, IsSomeAnd, List, None, Option, Some, true, ℕ};
-ghost use Rattle.spop_frame.specs.declared.kind.TheConstants.{HAPROXY_HELLO, NOTIFY};
+//! A frame that was taken off, by what was heard in it, and the frames that answer it.
+ghost use Rattle.std.specs.Prelude.{◌≡◌, ◌<◌, ◌≤◌, [], false, IfOk, List, None, Option, Some, true, ℕ};
+ghost use Rattle.spop_frame.specs.declared.frame.Frame.{Frame};
 ghost use Rattle.spop_hello.specs.Frames.{agent_hello, disconnect, IsStatus};
 ghost use Rattle.conn_core.specs.Between.{after_write, ComesFrom, ComesTo, GoesOnAt, IsBlank, leaving};
+ghost use Rattle.conn_core.specs.Heard.{Hears, IsKnown};
 ghost use Rattle.conn_core.specs.Stands.{calls_at, calls_left};
-ghost use Rattle.conn_core.specs.Trace.{is_misplaced};
 
+use crate::heard::Heard;
 use crate::stage::Stage;
 use crate::{Closing, Conn};
-use spop_data::DataFault;
-use spop_frame::{Frame, kind, status};
-use spop_hello::{Refuse, Terms, disconnect_frame, hello_frame, negotiate};
-use spop_talk::read_messages;
+use spop_frame::status;
+use spop_hello::{Terms, disconnect_frame, hello_frame};
+use spop_talk::{Action, Message};
 use std::alloc::Global;
 use std::collections::VecDeque;
+use std::mem;
 use waf_plain::{Bytes, NoMemory, Seq};
 
 impl<R, P, T> Conn<R, P, T> {
-    // Goes on at a frame that was taken off. Answers whether it gave no need.
-    pub(crate) fn take(&mut self, frame: Frame) -> bool
+    // Answers a frame that was taken off, by what was heard in it. Answers whether it gave no need.
+    pub(crate) fn take(&mut self, heard: Heard) -> bool
         requires at { self.old.stage ≡ Stage.Bytes }
         requires whole { self.old.broken ≡ false }
-        ensures on { result ≡ true → (self.new ≡ self.old) × GoesOnAt frame self.old self.new }
-        ensures done { result ≡ false → ComesFrom frame self.old self.new }
-        ensures fewer { calls_left self.new < calls_at frame self.old }
+        requires known { IsKnown heard }
+        ensures on { result ≡ true → (self.new ≡ self.old)
+            × ((f : Frame) → Hears self.old.size self.old.agreed f heard → GoesOnAt f self.old self.new) }
+        ensures done { result ≡ false
+            → (f : Frame) → Hears self.old.size self.old.agreed f heard → ComesFrom f self.old self.new }
+        ensures fewer { (f : Frame) → Hears self.old.size self.old.agreed f heard
+            → calls_left self.new < calls_at f self.old }
     {
-        if frame.kind == kind::HAPROXY_DISCONNECT {
-            self.write(
-                disconnect_bytes(self.alloc, status::NORMAL),
-                Some(Closing::Done),
-            );
-            return false;
-        }
-        match self.agreed {
-            None => {
-                if frame.kind == kind::HAPROXY_HELLO {
-                    self.greet(frame);
-                } else {
-                    self.refuse(status::INVALID);
-                }
+        match heard {
+            Heard::Nothing => true,
+            Heard::Goodbye => {
+                self.write(
+                    disconnect_bytes(self.alloc, status::NORMAL),
+                    Some(Closing::Done),
+                );
                 false
             }
-            Some(_) => {
-                if frame.kind == kind::NOTIFY {
-                    self.notify(frame);
-                    return false;
-                }
-                if is_misplaced(frame.kind) {
-                    self.refuse(status::INVALID);
-                    return false;
-                }
-                true
+            Heard::Hello(terms) => {
+                self.greet(&terms);
+                false
+            }
+            Heard::Messages {
+                stream,
+                frame,
+                messages,
+            } => {
+                self.notify(stream, frame, messages);
+                false
+            }
+            Heard::Refused(status) => {
+                self.refuse(status);
+                false
+            }
+            Heard::NoMemory => {
+                self.out_of_memory();
+                false
             }
         }
     }
 
     // Answers the client's HELLO.
-    fn greet(&mut self, frame: Frame)
+    fn greet(&mut self, terms: &Terms)
         requires at { self.old.stage ≡ Stage.Bytes }
         requires whole { self.old.broken ≡ false }
-        requires before { (self.old.agreed ≡ None) × (frame.kind ≡ HAPROXY_HELLO) }
-        ensures next { ComesFrom frame self.old self.new }
-        ensures fewer { calls_left self.new < calls_at frame self.old }
+        ensures next { (f : Frame) → Hears self.old.size self.old.agreed f (Heard.Hello terms.now)
+            → ComesFrom f self.old self.new }
+        ensures fewer { (f : Frame) → calls_left self.new < calls_at f self.old }
     {
-        match negotiate(self.alloc, frame.payload.as_slice(), self.size) {
-            Err(Refuse::Status(status)) => self.refuse(status),
-            Err(Refuse::NoMemory) => self.out_of_memory(),
-            Ok(terms) => {
-                let bytes = hello_bytes(self.alloc, &terms);
-                if terms.check {
-                    self.write(bytes, Some(Closing::Done));
-                } else {
-                    self.agreed = Some(terms.size);
-                    self.write(bytes, None);
-                }
-            }
+        let bytes = hello_bytes(self.alloc, terms);
+        if terms.check {
+            self.write(bytes, Some(Closing::Done));
+        } else {
+            self.agreed = Some(terms.size);
+            self.write(bytes, None);
         }
     }
 
-    // Takes the messages of a NOTIFY.
-    fn notify(&mut self, frame: Frame)
+    // Goes on at the messages of a NOTIFY.
+    fn notify(&mut self, stream: u64, frame: u64, messages: Seq<Message>)
         requires at { self.old.stage ≡ Stage.Bytes }
         requires whole { self.old.broken ≡ false }
-        requires past { IsSomeAnd self.old.agreed (λ x. frame.kind ≡ NOTIFY) }
-        ensures next { ComesFrom frame self.old self.new }
-        ensures fewer { calls_left self.new < calls_at frame self.old }
+        ensures next { (f : Frame) → Hears self.old.size self.old.agreed f (Heard.Messages stream frame messages)
+            → ComesFrom f self.old self.new }
+        ensures fewer { (f : Frame) → Hears self.old.size self.old.agreed f (Heard.Messages stream frame messages)
+            → calls_left self.new < calls_at f self.old }
     {
-        match read_messages(self.alloc, frame.payload.as_slice()) {
-            Err(DataFault::NoMemory) => self.out_of_memory(),
-            Err(DataFault::Invalid) => self.refuse(status::INVALID),
-            Ok(messages) => {
-                self.stream = frame.stream;
-                self.frame = frame.frame;
-                self.left = VecDeque::from(messages.into_vec());
-                self.actions = Seq::new(self.alloc);
-                self.stage.set(Stage::Ready);
-                self.go_on();
-            }
-        }
+        self.stream = stream;
+        self.frame = frame;
+        self.left = VecDeque::from(messages.into_vec());
+        self.actions = emptied(mem::replace(&mut self.actions, Seq::new(self.alloc)));
+        self.stage.set(Stage::Ready);
+        self.go_on();
     }
 
     // Leaves with that status.
@@ -142,14 +138,13 @@ impl<R, P, T> Conn<R, P, T> {
     }
 }
 
-// A type that HAProxy sends once or never.
-fn is_misplaced(kind: u8) -> bool
-    ensures { result ≡ is_misplaced kind }
+// No actions, in the room of others.
+fn emptied(actions: Seq<Action>) -> Seq<Action>
+    ensures { result ≡ [] }
 {
-    kind == kind::HAPROXY_HELLO
-        || kind == kind::AGENT_HELLO
-        || kind == kind::AGENT_DISCONNECT
-        || kind == kind::ACK
+    let mut actions = actions.into_vec();
+    actions.clear();
+    Seq::from_vec(actions)
 }
 
 // The DISCONNECT of that status.

@@ -6,9 +6,10 @@ ghost use Rattle.conn_core.specs.Stands.{calls_each, calls_left, fed, is_open, l
 ghost use Rattle.conn_core.specs.Stands.{StillTaken, Taken, TakenOrLost};
 ghost use Rattle.conn_core.specs.Trace.{limit_of};
 
+use crate::heard::heard_in;
 use crate::stage::{Stage, is_held};
 use crate::{Closing, Conn};
-use spop_frame::Next;
+use spop_frame::Head;
 use std::mem;
 
 impl<R: Drop, P: Drop, T> Conn<R, P, T> {
@@ -102,21 +103,19 @@ impl<R, P, T> Conn<R, P, T> {
     {
         let limit = self.limit();
         self.framer.set_limit(limit);
-        match self.framer.next(self.alloc) {
-            Next::NotYet => {
+        let heard = match self.framer.head() {
+            Head::NotYet => {
                 self.wait();
-                false
+                return false;
             }
-            Next::Bad(status) => {
+            Head::Bad(status) => {
                 self.refuse(status);
-                false
+                return false;
             }
-            Next::NoMemory => {
-                self.out_of_memory();
-                false
-            }
-            Next::Frame(frame) => self.take(frame),
-        }
+            Head::Whole(header) => heard_in(self.alloc, &header, self.size, self.agreed),
+        };
+        self.framer.skip();
+        self.take(heard)
     }
 
     // No frame is whole: waits for more, unless the input has ended.

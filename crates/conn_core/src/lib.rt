@@ -22,6 +22,7 @@ mod stage;
 
 // from its input to the next need
 mod frames;
+mod heard;
 mod input;
 mod messages;
 mod outcome;

@@ -9,10 +9,12 @@ use crate::Conn;
 use crate::outcome::{Outcome, add_outcome};
 use crate::stage::Stage;
 use hall_core::Key;
+use spop_data::Pair;
 use spop_frame::status;
 use spop_talk::{AckFault, Action, Message, write_ack};
 use spop_web::{ArgFault, Asked, REQUEST_MESSAGE, RESPONSE_MESSAGE, Told, request_of, response_of};
 use std::alloc::Global;
+use std::mem;
 use waf_plain::{Bytes, NoMemory, Seq};
 
 impl<R, P, T> Conn<R, P, T> {
@@ -43,24 +45,24 @@ impl<R, P, T> Conn<R, P, T> {
             return false;
         };
         if is_named(&message, REQUEST_MESSAGE) {
-            return self.take_request(&message);
+            return self.take_request(message);
         }
         if is_named(&message, RESPONSE_MESSAGE) {
-            return self.take_response(&message);
+            return self.take_response(message);
         }
         true
     }
 
     // Takes a message about a request. Answers whether the one after it is to be taken.
-    fn take_request(&mut self, message: &Message) -> bool
+    fn take_request(&mut self, message: Message) -> bool
         requires at { self.old.stage ≡ Stage.Ready }
         requires whole { self.old.broken ≡ false }
-        requires named { bytes_eq message.now.name request_message ≡ true }
-        ensures on { result ≡ true → IsPast message.now self.old self.new }
-        ensures done { result ≡ false → ComesTo (with_message message.now self.old) self.new }
+        requires named { bytes_eq message.name request_message ≡ true }
+        ensures on { result ≡ true → IsPast message self.old self.new }
+        ensures done { result ≡ false → ComesTo (with_message message self.old) self.new }
         ensures fewer { calls_left self.new < calls_left self.old + calls_each }
     {
-        match request_of(self.alloc, &message.args) {
+        match request_of(self.alloc, args_of(message)) {
             Ok(asked) => {
                 self.ask(asked);
                 false
@@ -74,16 +76,16 @@ impl<R, P, T> Conn<R, P, T> {
     }
 
     // Takes a message about a response. Answers whether the one after it is to be taken.
-    fn take_response(&mut self, message: &Message) -> bool
+    fn take_response(&mut self, message: Message) -> bool
         requires at { self.old.stage ≡ Stage.Ready }
         requires whole { self.old.broken ≡ false }
-        requires other { bytes_eq message.now.name request_message ≡ false }
-        requires named { bytes_eq message.now.name response_message ≡ true }
-        ensures on { result ≡ true → IsPast message.now self.old self.new }
-        ensures done { result ≡ false → ComesTo (with_message message.now self.old) self.new }
+        requires other { bytes_eq message.name request_message ≡ false }
+        requires named { bytes_eq message.name response_message ≡ true }
+        ensures on { result ≡ true → IsPast message self.old self.new }
+        ensures done { result ≡ false → ComesTo (with_message message self.old) self.new }
         ensures fewer { calls_left self.new < calls_left self.old + calls_each }
     {
-        match response_of(self.alloc, &message.args) {
+        match response_of(self.alloc, args_of(message)) {
             Ok(told) => {
                 self.tell(told);
                 false
@@ -173,7 +175,15 @@ impl<R, P, T> Conn<R, P, T> {
         ensures fewer { calls_left self.new < calls_left self.old }
     {
         let limit = self.limit();
-        match ack_bytes(self.alloc, self.stream, self.frame, &self.actions, limit) {
+        let room = mem::replace(&mut self.spare, Bytes::new(self.alloc));
+        match ack_bytes(
+            self.alloc,
+            self.stream,
+            self.frame,
+            &self.actions,
+            limit,
+            room,
+        ) {
             Ok(bytes) => self.stage.set(Stage::Write { bytes, then: None }),
             Err(AckFault::TooBig { .. }) => self.refuse(status::TOO_BIG),
             Err(AckFault::NoMemory) => self.out_of_memory(),
@@ -187,6 +197,12 @@ fn is_named(message: &Message, name: &[u8]) -> bool
     message.name.as_slice() == name
 }
 
+fn args_of(message: Message) -> Seq<Pair>
+    ensures { result ≡ message.args }
+{
+    message.args
+}
+
 fn two_copies(alloc: Global, bytes: &[u8]) -> Result<(Bytes, Bytes), NoMemory>
     ensures { IfOk result (λ both. (both.0 ≡ bytes.now) × (both.1 ≡ bytes.now)) }
 {
@@ -195,20 +211,22 @@ fn two_copies(alloc: Global, bytes: &[u8]) -> Result<(Bytes, Bytes), NoMemory>
     Ok((one, other))
 }
 
-// The ACK of a frame, where it keeps to the size.
+// The ACK of a frame in the room of other bytes, where it keeps to the size.
 fn ack_bytes(
     alloc: Global,
     stream: u64,
     frame: u64,
     actions: &Seq<Action>,
     size: u32,
+    room: Bytes,
 ) -> Result<Bytes, AckFault>
     ensures ok { IfOk result (λ b. b ≡ ack stream frame actions.now) }
     ensures fits { OnOk result (length (ack_body stream frame actions.now) ≤ size) }
     ensures too_big { (n : ℕ) → IsErrOf result (AckFault.TooBig n)
         → size < length (ack_body stream frame actions.now) }
 {
-    let mut bytes = Bytes::new(alloc);
+    let mut bytes = room;
+    bytes.truncate(0);
     write_ack(alloc, stream, frame, actions, size, &mut bytes)?;
     Ok(bytes)
 }

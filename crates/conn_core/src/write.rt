@@ -30,7 +30,7 @@ impl<R, P, T> Conn<R, P, T> {
     {
         match mem::replace(&mut self.stage, Stage::Bytes) {
             Stage::Write { bytes, then } => {
-                drop(bytes);
+                self.spare = bytes;
                 self.follow(then);
             }
             Stage::LastWrite => self

@@ -5,7 +5,7 @@ use Rattle.std.proofs.lemmas.List.{take_at, drop_at}
 use Rattle.std.specs.Int.{to_be_bytes, w32}
 use Rattle.std.specs.Prelude.{◌==◌}
 use Rattle.spop_frame.specs.Frame.{SpellsFrame, IsFragment}
-use Rattle.spop_frame.specs.Head.{Whole, head_of, behind_length, is_fragment}
+use Rattle.spop_frame.specs.Head.{Head, NotYet, Bad, Whole, IsWhole, head_of, behind_length, is_fragment}
 use Rattle.spop_frame.specs.declared.frame.Frame.{Frame}
 use Rattle.spop_frame.proofs.Spellings.{word_again, frame_read}
 
@@ -31,3 +31,9 @@ frame_again limit bytes rest f s small fine =
     ap (head_of limit) start
     ∙ ap (behind_length limit) (word_again n (body ++ rest) s.2)
     ∙ rw (le-ltb limit n within, le-ltb (length (body ++ rest)) n all, take_at body rest n refl, drop_at body rest n refl, frame_read body f s.1, no_fragment f fine) refl
+
+-- what is whole is some frame, and the bytes after it
+pub whole_is : (head : Head) → IsWhole head → (f : Frame) × (rest : List ℕ) × (head ≡ Whole f rest)
+whole_is NotYet h = absurd h
+whole_is (Bad status) h = absurd h
+whole_is (Whole f rest) h = (f, rest, refl)

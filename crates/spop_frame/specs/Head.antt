@@ -13,6 +13,12 @@ pub data Head : Type 0 where
   Bad : ℕ → Head
   Whole : Frame → List ℕ → Head  -- a frame, and the bytes after it
 
+-- it is a frame
+abbrev pub IsWhole : Head → Type 0
+IsWhole NotYet = ⊥
+IsWhole (Bad status) = ⊥
+IsWhole (Whole f rest) = Unit {0}
+
 -- FIN is missing, ABORT is set or the type is UNSET
 abbrev pub is_fragment : Frame → Bool
 is_fragment f = (bit_and f.flags FIN == 0) || not (bit_and f.flags ABORT == 0) || (f.kind == UNSET)

@@ -2,6 +2,6 @@ pub mod Frame
 pub mod Head
 pub mod Held
 pub mod Header
+pub mod Lent
 pub mod Reading
-pub mod Taken
 pub mod Writing

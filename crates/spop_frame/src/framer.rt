@@ -1,7 +1,7 @@
 ghost use Rattle.std.specs.Prelude.{◌≡◌, ◌++◌, ◌≤◌, [], drop, length, List, OnErr, OnOk, Some, ℕ};
 
-use crate::header::{Header, LENGTH_BYTES, header_of, split_word};
-use crate::{Frame, flag, kind, status};
+use crate::head::{frame_size, read_head};
+use crate::{Frame, Head};
 use std::alloc::Global;
 use std::marker::Model;
 use waf_plain::{Bytes, NoMemory};
@@ -40,9 +40,9 @@ impl Model for Framer {
     ghost invariant = { λ f. f.taken ≤ length f.bytes };
 }
 
-ghost use Rattle.spop_frame.specs.Head.{head_of, is_fragment, IsHead, whole};
-ghost use Rattle.spop_frame.specs.Header.{frame_seen};
-ghost use Rattle.spop_frame.specs.Taken.{TakesHead};
+ghost use Rattle.spop_frame.specs.Head.{head_of, IsHead, IsWhole, Whole};
+ghost use Rattle.spop_frame.specs.Lent.{IsLent};
+ghost use Rattle.spop_frame.specs.declared.frame.Frame.{Frame};
 
 impl Framer {
     /// No bytes yet. The limit is on the length that a frame's first four bytes give. It takes no
@@ -83,55 +83,37 @@ impl Framer {
         self.limit = limit;
     }
 
+    /// What they begin with. It takes no memory.
+    pub fn head(&self) -> Head<'_>
+        ensures { IsLent result (head_of self.now.limit self.now.bytes) }
+    {
+        read_head(self.limit, self.bytes.as_slice().split_at(self.taken).1)
+    }
+
+    /// Takes the first frame off, which `head` lends. It takes no memory.
+    #[tactic(auto, using(crate::proofs::Heads::whole_is))]
+    pub fn skip(&mut self)
+        requires { IsWhole (head_of self.old.limit self.old.bytes) }
+        ensures off { (f : Frame) (rest : List ℕ) → head_of self.old.limit self.old.bytes ≡ Whole f rest
+            → self.new ≡ record self.old { bytes = rest } }
+    {
+        self.taken += frame_size(self.bytes.as_slice().split_at(self.taken).1);
+    }
+
     /// Takes the first frame off, where it is held whole. After any other answer nothing has changed.
     pub fn next(&mut self, alloc: Global) -> Next
         ensures head { IsHead result (head_of self.old.limit self.old.bytes) self.old.bytes self.new.bytes }
         ensures limit { self.new.limit ≡ self.old.limit }
     {
-        let held = self.bytes.as_slice().split_at(self.taken).1;
-        let (next, used) = head(alloc, self.limit, held);
-        self.taken += used;
-        next
+        let frame = match self.head() {
+            Head::NotYet => return Next::NotYet,
+            Head::Bad(status) => return Next::Bad(status),
+            Head::Whole(header) => match Bytes::copy(alloc, header.payload) {
+                Err(NoMemory) => return Next::NoMemory,
+                Ok(payload) => header.frame(payload),
+            },
+        };
+        self.skip();
+        Next::Frame(frame)
     }
-}
-
-// What the bytes begin with, and how many are taken with it.
-fn head(alloc: Global, limit: u32, bytes: &[u8]) -> (Next, usize)
-    ensures { TakesHead bytes.now result.0 result.1 (head_of limit bytes.now) }
-{
-    let Some((length, rest)) = split_word(bytes) else {
-        return (Next::NotYet, 0);
-    };
-    if length > limit {
-        return (Next::Bad(status::TOO_BIG), 0);
-    }
-    let length = length as usize;
-    if rest.len() < length {
-        return (Next::NotYet, 0);
-    }
-    match header_of(rest.split_at(length).0) {
-        None => (Next::Bad(status::INVALID), 0),
-        Some(header) => whole(alloc, &header, LENGTH_BYTES + length),
-    }
-}
-
-// The frame of that header, whose spelling has so many bytes with its length.
-fn whole(alloc: Global, header: &Header<'_>, size: usize) -> (Next, usize)
-    ensures { (bytes : List ℕ) → size ≤ length bytes
-        → TakesHead bytes result.0 result.1 (whole (Some (frame_seen header.now)) (drop size bytes)) }
-{
-    if is_fragment(header) {
-        return (Next::Bad(status::FRAGMENT), 0);
-    }
-    match Bytes::copy(alloc, header.payload) {
-        Err(NoMemory) => (Next::NoMemory, 0),
-        Ok(payload) => (Next::Frame(header.frame(payload)), size),
-    }
-}
-
-// FIN is missing, ABORT is set or the type is UNSET.
-fn is_fragment(header: &Header<'_>) -> bool
-    ensures { result ≡ is_fragment (frame_seen header.now) }
-{
-    header.flags & flag::FIN == 0 || header.flags & flag::ABORT != 0 || header.kind == kind::UNSET
 }

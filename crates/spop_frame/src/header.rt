@@ -10,19 +10,23 @@ use waf_plain::Bytes;
 /// How many bytes the length of a frame has.
 pub const LENGTH_BYTES: usize = 4;
 
-// A frame whose payload still lies in the bytes that it was read from.
+/// A frame whose payload still lies in the bytes that it was read from.
 #[derive(Clone, Copy)]
 pub struct Header<'a> {
+    /// One of the types in `kind`, or one that nobody knows.
     pub kind: u8,
+    /// Those in `flag`, and others without a meaning.
     pub flags: u32,
+    /// STREAM-ID.
     pub stream: u64,
+    /// FRAME-ID.
     pub frame: u64,
     pub payload: &'a [u8],
 }
 
 impl Header<'_> {
     // The frame of this header with a copy of its payload.
-    pub fn frame(&self, payload: Bytes) -> Frame
+    pub(crate) fn frame(&self, payload: Bytes) -> Frame
         requires { payload ≡ self.now.payload.now }
         ensures { result ≡ frame_seen self.now }
     {

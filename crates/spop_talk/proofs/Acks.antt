@@ -1,19 +1,25 @@
 -- The bytes of an ACK spell its frame.
-use Rattle.std.proofs.Common.{◌≡◌, inl, inr, ℕ, ◌+◌, ◌<◌, ◌≤◌, ◌^◌, List, ◌++◌, length, refl, ap, arith, rules, length-append}
+use Rattle.std.proofs.Common.{◌≡◌, inl, inr, ℕ, ◌+◌, ◌<◌, ◌≤◌, ◌^◌, List, [], ◌∷◌, ◌++◌, length, take, drop, refl, sym, ◌∙◌, ap, arith, rules, append_assoc, length-append}
+use Rattle.std.proofs.lemmas.List.{drop_at, take_at}
 use Rattle.spop_varint.specs.Writing.{spelling}
 use Rattle.spop_varint.proofs.Spelling.{spelled}
 use Rattle.spop_frame.specs.Frame.{SpellsBody, SpellsFrame, IsFragment, framed}
 use Rattle.spop_frame.specs.Head.{head_of, Whole}
-use Rattle.spop_frame.specs.Writing.{body_bytes}
-use Rattle.spop_frame.specs.declared.frame.Frame.{Frame}
 use Rattle.std.specs.Int.{to_be_bytes, w32}
 use Rattle.spop_frame.proofs.Heads.{frame_again}
 use Rattle.spop_talk.specs.Ack.{ack, ack_body, ack_frame}
 use Rattle.spop_talk.specs.declared.ack.Action.{Action}
 
-pub body_length : (stream frame : ℕ) (actions : List Action) (f : Frame) → f ≡ ack_frame stream frame actions → length (body_bytes f) ≡ length (ack_body stream frame actions)
-unfolding ack_body
-body_length stream frame actions f is = ap (λ (g : Frame). length (body_bytes g)) is
+-- four bytes of 0 before a body, once its length stands there
+pub patched : (old body : List ℕ) (at_ word : ℕ) → at_ ≡ length old → word ≡ length body
+    → take at_ (old ++ (0 ∷ 0 ∷ 0 ∷ 0 ∷ body)) ++ (to_be_bytes w32 word ++ drop (at_ + 4) (old ++ (0 ∷ 0 ∷ 0 ∷ 0 ∷ body))) ≡ old ++ framed body
+patched old body at_ word place is =
+    let zeros : List ℕ = 0 ∷ 0 ∷ 0 ∷ 0 ∷ [] in
+    let front : length (old ++ zeros) ≡ at_ + 4 = omega (arith, length-append old zeros, place) in
+    let kept : take at_ (old ++ (0 ∷ 0 ∷ 0 ∷ 0 ∷ body)) ≡ old = take_at old _ at_ (sym place) in
+    let rest : drop (at_ + 4) (old ++ (0 ∷ 0 ∷ 0 ∷ 0 ∷ body)) ≡ body =
+    ap (λ (l : List ℕ). drop (at_ + 4) l) (sym (append_assoc old zeros body)) ∙ drop_at (old ++ zeros) body (at_ + 4) front in
+    λ i. kept i ++ (to_be_bytes w32 (is i) ++ rest i)
 
 module _ (stream frame : ℕ) (actions : List Action) (stream_fits : stream < 2 ^ 64) (frame_fits : frame < 2 ^ 64) where
   pub body_spelled : SpellsBody (ack_body stream frame actions) (ack_frame stream frame actions)

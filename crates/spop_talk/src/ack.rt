@@ -1,9 +1,15 @@
-ghost use Rattle.std.specs.Prelude.{◌≡◌, ◌++◌, ◌<◌, IfOk, IsErrOf, OnErr, OnOk, ℕ, length};
+ghost use Rattle.std.specs.Int.{to_be_bytes, w32};
+ghost use Rattle.std.specs.Prelude.{◌≡◌, ◌+◌, ◌++◌, ◌∷◌, ◌<◌, ◌≤◌, IsErrOf, OnErr, OnOk, drop, ℕ, length, take};
 
 use spop_data::{Data, write_data, write_text};
-use spop_frame::{Frame, WriteFault, flag, kind, write_frame};
+use spop_frame::{flag, kind};
+use spop_varint::write_varint;
 use std::alloc::Global;
+use std::mem;
 use waf_plain::{Bytes, NoMemory, Seq};
+
+// How many bytes the length of a frame has (SPOE.txt, 3.2).
+const LENGTH_BYTES: usize = 4;
 
 // The action SET-VAR, its number of arguments, and the scope of a transaction (SPOE.txt, 3.4).
 const SET_VAR: u8 = 1;
@@ -28,12 +34,12 @@ pub enum AckFault {
 }
 
 ghost use Rattle.std.specs.List.{flat_map};
+ghost use Rattle.spop_data.specs.Writing.{Grows};
 ghost use Rattle.spop_frame.specs.Frame.{SpellsFrame};
 ghost use Rattle.spop_talk.specs.Ack.{ack, ack_body, ack_frame, action_bytes};
 
 /// Appends the ACK of a frame: type ACK, FIN alone, and the actions in their order. After an `Err`
 /// the bytes are as before (SPOE.txt, 3.2.7).
-#[tactic(auto, unfolding(crate::specs::Ack::ack_body))]
 pub fn write_ack(
     alloc: Global,
     stream: u64,
@@ -50,37 +56,37 @@ pub fn write_ack(
     ensures never { size < length (ack_body stream frame actions.now) → OnOk result ⊥ }
     ensures err { OnErr result (out.new ≡ out.old) }
 {
-    let Ok(answer) = frame_of(alloc, stream, frame, actions.as_slice()) else {
+    let before = out.len();
+    let Ok(()) = put_ack(stream, frame, actions.as_slice(), out) else {
+        out.truncate(before);
         return Err(AckFault::NoMemory);
     };
-    let length = answer.length();
+    let length = (out.len() - before - LENGTH_BYTES) as u64;
     if length > u64::from(size) {
+        out.truncate(before);
         return Err(AckFault::TooBig { length });
     }
-    match write_frame(alloc, &answer, out) {
-        Ok(()) => Ok(()),
-        Err(WriteFault::NoMemory) => Err(AckFault::NoMemory),
-        Err(WriteFault::TooLong) => unreachable!(),
-    }
+    set_word(alloc, out, before, length as u32);
+    Ok(())
 }
 
-// The frame that answers.
-fn frame_of(alloc: Global, stream: u64, frame: u64, actions: &[Action]) -> Result<Frame, NoMemory>
-    ensures { IfOk result (λ f. f ≡ ack_frame stream frame actions.now) }
+// Appends four bytes of 0 and the body; after an `Err` maybe a prefix of them.
+#[tactic(auto, unfolding(crate::specs::Ack::ack_body))]
+fn put_ack(stream: u64, frame: u64, actions: &[Action], out: &mut Bytes) -> Result<(), NoMemory>
+    ensures ok { OnOk result (out.new ≡ out.old ++ (0 ∷ 0 ∷ 0 ∷ 0 ∷ ack_body stream frame actions.now)) }
+    ensures grows { Grows out.old out.new }
 {
-    let mut payload = Bytes::new(alloc);
-    put_actions(actions, &mut payload)?;
-    Ok(Frame {
-        kind: kind::ACK,
-        flags: flag::FIN,
-        stream,
-        frame,
-        payload,
-    })
+    out.append(&[0; LENGTH_BYTES])?;
+    out.push(kind::ACK)?;
+    out.append(&flag::FIN.to_be_bytes())?;
+    write_varint(stream, out)?;
+    write_varint(frame, out)?;
+    put_actions(actions, out)
 }
 
 fn put_actions(actions: &[Action], out: &mut Bytes) -> Result<(), NoMemory>
     ensures ok { OnOk result (out.new ≡ out.old ++ flat_map action_bytes actions.now) }
+    ensures grows { Grows out.old out.new }
 {
     for action in actions {
         put_action(action, out)?;
@@ -91,8 +97,19 @@ fn put_actions(actions: &[Action], out: &mut Bytes) -> Result<(), NoMemory>
 // The type of the action, how many arguments it has, and these: a scope, the name and the value.
 fn put_action(action: &Action, out: &mut Bytes) -> Result<(), NoMemory>
     ensures ok { OnOk result (out.new ≡ out.old ++ action_bytes action.now) }
+    ensures grows { Grows out.old out.new }
 {
     out.append(&[SET_VAR, ARGUMENTS, TRANSACTION])?;
     write_text(action.name.as_slice(), out)?;
     write_data(&action.value, out)
+}
+
+// Puts a number in network order over the bytes at a place.
+fn set_word(alloc: Global, bytes: &mut Bytes, at: usize, word: u32)
+    requires { at + 4 ≤ length bytes.old }
+    ensures { bytes.new ≡ take at bytes.old ++ (to_be_bytes w32 word ++ drop (at + 4) bytes.old) }
+{
+    let mut held = mem::replace(bytes, Bytes::new(alloc)).into_vec();
+    held.as_mut_slice()[at..at + LENGTH_BYTES].copy_from_slice(&word.to_be_bytes());
+    *bytes = Bytes::from_vec(held);
 }

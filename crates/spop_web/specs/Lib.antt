@@ -4,4 +4,5 @@ pub mod Reading
 pub mod Refusal
 pub mod Request
 pub mod Response
+pub mod Taking
 pub mod Values

@@ -1,8 +1,5 @@
 ghost use Rattle.std.specs.Prelude.{◌≡◌};
-ghost use Rattle.std.specs.Option.{option_map};
-ghost use Rattle.spop_web.specs.Refusal.{IsRefusal};
 
-use std::alloc::Global;
 use waf_plain::{Bytes, NoMemory};
 
 /// An argument of a message about a request or a response, in the order in which they are checked.
@@ -64,18 +61,5 @@ impl From<NoMemory> for ArgFault {
 
     fn from(_: NoMemory) -> ArgFault {
         ArgFault::NoMemory
-    }
-}
-
-// The refusal of an argument.
-pub(crate) fn refusal(alloc: Global, arg: Arg, id: Option<&[u8]>) -> ArgFault
-    ensures { IsRefusal result arg (option_map (λ t. t.now) id.entry) }
-{
-    match id {
-        None => ArgFault::Bad { arg, id: None },
-        Some(id) => match Bytes::copy(alloc, id) {
-            Ok(id) => ArgFault::Bad { arg, id: Some(id) },
-            Err(_) => ArgFault::NoMemory,
-        },
     }
 }

@@ -1,6 +1,5 @@
 ghost use Rattle.spop_web.specs.Request.{IsAsked};
 
-use crate::argument::refusal;
 use crate::reader::Reader;
 use crate::value::or_empty;
 use crate::{Arg, ArgFault};
@@ -22,10 +21,10 @@ pub struct Asked {
 /// addresses IPV4 or IPV6; what is absent is empty, but for `id` and `method`, which are wanted.
 /// `id` has 1 to 256 bytes, `app` at most 256, `method` at least 1, and a port is at most 65535.
 /// `Bad` names the first argument that is not so, in the order of `Arg`.
-pub fn request_of(alloc: Global, args: &Seq<Pair>) -> Result<Asked, ArgFault>
-    ensures { IsAsked args.now result }
+pub fn request_of(alloc: Global, args: Seq<Pair>) -> Result<Asked, ArgFault>
+    ensures { IsAsked args result }
 {
-    let mut reader = Reader::new(args.as_slice());
+    let mut reader = Reader::new(alloc, args);
     let id = reader.identifier();
     let app = reader.application();
     let src = reader.address(Arg::SrcIp);
@@ -39,21 +38,20 @@ pub fn request_of(alloc: Global, args: &Seq<Pair>) -> Result<Asked, ArgFault>
     let headers = reader.text(Arg::Headers);
     let body = reader.text(Arg::Body);
     if let Some(arg) = reader.bad {
-        return Err(refusal(alloc, arg, id));
+        return Err(ArgFault::Bad { arg, id });
     }
-    let app = Bytes::copy(alloc, app)?;
     let request = Request {
-        id: Bytes::copy(alloc, or_empty(id))?,
+        id: or_empty(alloc, id),
         src,
         src_port,
         dst,
         dst_port,
-        method: Bytes::copy(alloc, method)?,
-        path: Bytes::copy(alloc, path)?,
-        query: Bytes::copy(alloc, query)?,
-        version: Bytes::copy(alloc, version)?,
-        headers: Bytes::copy(alloc, headers)?,
-        body: Bytes::copy(alloc, body)?,
+        method,
+        path,
+        query,
+        version,
+        headers,
+        body,
     };
     Ok(Asked { app, request })
 }

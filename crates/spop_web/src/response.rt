@@ -1,6 +1,5 @@
 ghost use Rattle.spop_web.specs.Response.{IsTold};
 
-use crate::argument::refusal;
 use crate::reader::Reader;
 use crate::value::or_empty;
 use crate::{Arg, ArgFault};
@@ -20,10 +19,10 @@ pub struct Told {
 
 /// The response that the arguments tell, by the rules of `request_of`. Here `id` and `status` are
 /// wanted, and `status` is 100 to 999.
-pub fn response_of(alloc: Global, args: &Seq<Pair>) -> Result<Told, ArgFault>
-    ensures { IsTold args.now result }
+pub fn response_of(alloc: Global, args: Seq<Pair>) -> Result<Told, ArgFault>
+    ensures { IsTold args result }
 {
-    let mut reader = Reader::new(args.as_slice());
+    let mut reader = Reader::new(alloc, args);
     let id = reader.identifier();
     let app = reader.application();
     let status = reader.status();
@@ -31,15 +30,17 @@ pub fn response_of(alloc: Global, args: &Seq<Pair>) -> Result<Told, ArgFault>
     let headers = reader.text(Arg::Headers);
     let body = reader.text(Arg::Body);
     if let Some(arg) = reader.bad {
-        return Err(refusal(alloc, arg, id));
+        return Err(ArgFault::Bad { arg, id });
     }
-    let app = Bytes::copy(alloc, app)?;
-    let id = Bytes::copy(alloc, or_empty(id))?;
     let response = Response {
-        version: Bytes::copy(alloc, version)?,
+        version,
         status,
-        headers: Bytes::copy(alloc, headers)?,
-        body: Bytes::copy(alloc, body)?,
+        headers,
+        body,
     };
-    Ok(Told { app, id, response })
+    Ok(Told {
+        app,
+        id: or_empty(alloc, id),
+        response,
+    })
 }

@@ -1,10 +1,14 @@
-ghost use Rattle.std.specs.Prelude.{◌≡◌, ◌&&◌, ◌≤◌, [], IsTrue, bytes_eq, find, nat_le, reverse, unwrap_or};
-ghost use Rattle.std.specs.Option.{option_map};
+ghost use Rattle.std.specs.Prelude.{◌≡◌, ◌&&◌, ◌≤◌, [], IsTrue, bytes_eq, cond, nat_le, unwrap_or};
+ghost use Rattle.spop_web.specs.Names.{name_of};
+ghost use Rattle.spop_web.specs.Taking.{emptied, without};
 ghost use Rattle.spop_web.specs.Values.{address_in, application_in, given, identifier_in, method_in};
-ghost use Rattle.spop_web.specs.Values.{natural, number_of, port_in, status_in, text_in, text_within, within};
+ghost use Rattle.spop_web.specs.Values.{natural, number_of, port_in, present, status_in, text_in, text_within, within};
 
 use crate::Arg;
 use spop_data::{Data, Pair};
+use std::alloc::Global;
+use std::mem;
+use waf_plain::Bytes;
 use web_parts::Address;
 
 // The longest identifier, and the longest name of an application, in bytes.
@@ -17,25 +21,28 @@ const MIN_STATUS: u16 = 100;
 
 const MAX_STATUS: u16 = 999;
 
-// The value of the last argument of that name. NULL counts as absent.
-pub(crate) fn given(args: &[Pair], arg: Arg) -> Option<&Data>
-    ensures { option_map (λ d. d.now) result ≡ given arg args.now }
+// Takes the values of the arguments of that name out, and answers the last of them; NULL is left there.
+pub(crate) fn take(args: &mut [Pair], arg: Arg) -> Data
+    ensures value { present result ≡ given arg args.old }
+    ensures args { args.new ≡ without arg args.old }
 {
-    match last_named(args, arg.name()) {
-        None => None,
-        Some(pair) => match &pair.value {
-            Data::Null => None,
-            value => Some(value),
-        },
+    let mut last = Data::Null;
+    for pair in args.iter_mut() {
+        last = later(last, pair, arg);
     }
+    last
 }
 
-fn last_named<'a>(args: &'a [Pair], name: &[u8]) -> Option<&'a Pair>
-    ensures { option_map (λ p. p.now) result ≡ find (λ p. bytes_eq p.name name.now) (reverse args.now) }
+// The value of the pair, if it has that name, and else the one before.
+fn later(before: Data, pair: &mut Pair, arg: Arg) -> Data
+    ensures value { result ≡ cond (bytes_eq pair.old.name (name_of arg)) pair.old.value before }
+    ensures pair { pair.new ≡ emptied (name_of arg) pair.old }
 {
-    args.iter()
-        .rev()
-        .find(|pair| same(pair.name.as_slice(), name))
+    if same(pair.name.as_slice(), arg.name()) {
+        mem::replace(&mut pair.value, Data::Null)
+    } else {
+        before
+    }
 }
 
 fn same(a: &[u8], b: &[u8]) -> bool
@@ -45,43 +52,43 @@ fn same(a: &[u8], b: &[u8]) -> bool
 }
 
 // A text, which is empty where it is absent; `None` where the value has another type.
-pub(crate) fn text_in(value: Option<&Data>) -> Option<&[u8]>
-    ensures { option_map (λ t. t.now) result ≡ text_in (option_map (λ d. d.now) value.entry) }
+pub(crate) fn text_in(alloc: Global, value: Option<Data>) -> Option<Bytes>
+    ensures { result ≡ text_in value }
 {
     match value {
-        None => Some(b""),
-        Some(Data::Text(text)) => Some(text.as_slice()),
-        Some(Data::Binary(text)) => Some(text.as_slice()),
+        None => Some(Bytes::new(alloc)),
+        Some(Data::Text(text)) => Some(text),
+        Some(Data::Binary(text)) => Some(text),
         Some(_) => None,
     }
 }
 
 // The text, which is empty where there is none.
-pub(crate) fn or_empty(text: Option<&[u8]>) -> &[u8]
-    ensures { result.now ≡ unwrap_or (option_map (λ t. t.now) text.entry) [] }
+pub(crate) fn or_empty(alloc: Global, text: Option<Bytes>) -> Bytes
+    ensures { result ≡ unwrap_or text [] }
 {
-    text.unwrap_or(b"")
+    text.unwrap_or(Bytes::new(alloc))
 }
 
 // A text that is not empty and of at most 256 bytes.
-pub(crate) fn identifier_in(value: Option<&Data>) -> Option<&[u8]>
-    ensures { option_map (λ t. t.now) result ≡ identifier_in (option_map (λ d. d.now) value.entry) }
+pub(crate) fn identifier_in(alloc: Global, value: Option<Data>) -> Option<Bytes>
+    ensures { result ≡ identifier_in value }
 {
-    text_within(value, 1, MAX_NAME)
+    text_within(alloc, value, 1, MAX_NAME)
 }
 
 // A text of at most 256 bytes.
-pub(crate) fn application_in(value: Option<&Data>) -> Option<&[u8]>
-    ensures { option_map (λ t. t.now) result ≡ application_in (option_map (λ d. d.now) value.entry) }
+pub(crate) fn application_in(alloc: Global, value: Option<Data>) -> Option<Bytes>
+    ensures { result ≡ application_in value }
 {
-    text_within(value, 0, MAX_NAME)
+    text_within(alloc, value, 0, MAX_NAME)
 }
 
 // A text of so many bytes.
-fn text_within(value: Option<&Data>, least: u16, most: u16) -> Option<&[u8]>
-    ensures { option_map (λ t. t.now) result ≡ text_within least most (option_map (λ d. d.now) value.entry) }
+fn text_within(alloc: Global, value: Option<Data>, least: u16, most: u16) -> Option<Bytes>
+    ensures { result ≡ text_within least most value }
 {
-    let Some(text) = text_in(value) else {
+    let Some(text) = text_in(alloc, value) else {
         return None;
     };
     if is_within(text.len() as u64, least, most) {
@@ -92,47 +99,47 @@ fn text_within(value: Option<&Data>, least: u16, most: u16) -> Option<&[u8]>
 }
 
 // A text that is not empty.
-pub(crate) fn method_in(value: Option<&Data>) -> Option<&[u8]>
-    ensures { option_map (λ t. t.now) result ≡ method_in (option_map (λ d. d.now) value.entry) }
+pub(crate) fn method_in(alloc: Global, value: Option<Data>) -> Option<Bytes>
+    ensures { result ≡ method_in value }
 {
-    match text_in(value) {
-        None | Some([]) => None,
-        Some(text) => Some(text),
-    }
+    let Some(text) = text_in(alloc, value) else {
+        return None;
+    };
+    if text.is_empty() { None } else { Some(text) }
 }
 
 // An address, and none where it is absent.
-pub(crate) fn address_in(value: Option<&Data>) -> Option<Address>
-    ensures { result ≡ address_in (option_map (λ d. d.now) value.entry) }
+pub(crate) fn address_in(value: Option<Data>) -> Option<Address>
+    ensures { result ≡ address_in value }
 {
     match value {
         None => Some(Address::None),
-        Some(Data::Ipv4(octets)) => Some(Address::V4(*octets)),
-        Some(Data::Ipv6(octets)) => Some(Address::V6(*octets)),
+        Some(Data::Ipv4(octets)) => Some(Address::V4(octets)),
+        Some(Data::Ipv6(octets)) => Some(Address::V6(octets)),
         Some(_) => None,
     }
 }
 
 // A port, and none where it is absent.
-pub(crate) fn port_in(value: Option<&Data>) -> Option<Option<u16>>
-    ensures { result ≡ port_in (option_map (λ d. d.now) value.entry) }
+pub(crate) fn port_in(value: Option<Data>) -> Option<Option<u16>>
+    ensures { result ≡ port_in value }
 {
     let Some(value) = value else {
         return Some(None);
     };
-    match within(number_of(value), 0, MAX_PORT) {
+    match within(number_of(&value), 0, MAX_PORT) {
         None => None,
         Some(port) => Some(Some(port)),
     }
 }
 
 // A status code of three digits.
-pub(crate) fn status_in(value: Option<&Data>) -> Option<u16>
-    ensures { result ≡ status_in (option_map (λ d. d.now) value.entry) }
+pub(crate) fn status_in(value: Option<Data>) -> Option<u16>
+    ensures { result ≡ status_in value }
 {
     match value {
         None => None,
-        Some(value) => within(number_of(value), MIN_STATUS, MAX_STATUS),
+        Some(value) => within(number_of(&value), MIN_STATUS, MAX_STATUS),
     }
 }
 

@@ -1,22 +1,27 @@
-use Rattle.std.proofs.Common.{◌≡◌, List, Err, length, ◌∙◌, ap, arith}
-use Rattle.spop_frame.specs.Writing.{body_bytes}
-use Rattle.spop_frame.proofs.Spellings.{body_is}
-use Rattle.spop_talk.specs.Ack.{ack_body, ack_frame}
+use Rattle.std.proofs.Common.{◌≡◌, ◌+◌, ◌-◌, List, ◌∷◌, ◌++◌, length, take, drop, ℕ, ◌∙◌, ap, arith, length-append}
+use Rattle.std.specs.Int.{to_be_bytes, w32}
+use Rattle.spop_talk.specs.Ack.{ack_body}
 use Rattle.spop_talk.specs.declared.ack.Action.{Action}
-use Rattle.spop_talk.proofs.Acks.{ack_spelled, body_length}
+use Rattle.spop_talk.proofs.Acks.{ack_spelled, patched}
 use Rattle.spop_talk.proofs.ack.write_ack.Goals as goal
 
-pub returns-in-Ok-write_frame-clause-spelled : goal.returns-in-Ok-write_frame-clause-spelled
-returns-in-Ok-write_frame-clause-spelled c =
-    let is : c.in-Ok.answer ≡ ack_frame c.args.stream c.args.frame c.args.actions.now =
-    c.in-Ok.ensures ∙ ap (λ (xs : List Action). ack_frame c.args.stream c.args.frame xs) c.as_slice.ensures in
-    let long : c.length-length.result ≡ length (ack_body c.args.stream c.args.frame c.args.actions.now) =
-    c.length-length.ensures ∙ body_length c.args.stream c.args.frame c.args.actions.now c.in-Ok.answer is in
-    ack_spelled c.args.stream c.args.frame c.args.actions.now c.ranges.stream.fits c.ranges.frame.fits
-    (omega (arith, long, c.if-length-from.false, c.from.ensures, c.ranges.size.fits))
+pub returns-clause-ok : goal.returns-clause-ok
+returns-clause-ok c =
+    let body = ack_body c.args.stream c.args.frame c.args.actions.now in
+    let old = c.args.out.now in
+    let before = c.len-before.result in
+    let wrote : c.put_ack.new.out ≡ old ++ (0 ∷ 0 ∷ 0 ∷ 0 ∷ body) =
+    c.in-Ok.ensures.ok ∙ ap (λ (xs : List Action). old ++ (0 ∷ 0 ∷ 0 ∷ 0 ∷ ack_body c.args.stream c.args.frame xs)) c.as_slice.ensures in
+    let word : c.len.result - before - 4 ≡ length body = omega (arith, c.len.ensures, c.len-before.ensures, ap length wrote, length-append old (0 ∷ 0 ∷ 0 ∷ 0 ∷ body)) in
+    c.set_word.ensures
+    ∙ ap (λ (l : List ℕ). take before l ++ (to_be_bytes w32 (c.len.result - before - 4) ++ drop (before + 4) l)) wrote
+    ∙ patched old body before (c.len.result - before - 4) c.len-before.ensures word
 
-pub unreachable-requires : goal.unreachable-requires
-unreachable-requires c =
-    let long = c.write_frame.ensures.too_long (c.in-Err-TooLong.is ∙ ap (λ e. Err e) c.in-Err-TooLong.field-0-is) in
-    let is : long.0 ≡ body_bytes c.in-Ok.answer = body_is c.in-Ok.answer long.0 long.1 in
-    omega (arith, long.2, ap length is, c.length-length.ensures, c.if-length-from.false, c.from.ensures, c.ranges.size.fits)
+pub returns-clause-spelled : goal.returns-clause-spelled
+returns-clause-spelled c =
+    let body = ack_body c.args.stream c.args.frame c.args.actions.now in
+    let old = c.args.out.now in
+    let wrote : c.put_ack.new.out ≡ old ++ (0 ∷ 0 ∷ 0 ∷ 0 ∷ body) =
+    c.in-Ok.ensures.ok ∙ ap (λ (xs : List Action). old ++ (0 ∷ 0 ∷ 0 ∷ 0 ∷ ack_body c.args.stream c.args.frame xs)) c.as_slice.ensures in
+    ack_spelled c.args.stream c.args.frame c.args.actions.now c.ranges.stream.fits c.ranges.frame.fits
+    (omega (arith, c.len.ensures, c.len-before.ensures, ap length wrote, length-append old (0 ∷ 0 ∷ 0 ∷ 0 ∷ body), c.if-length-from.false, c.from.ensures, c.ranges.size.fits))

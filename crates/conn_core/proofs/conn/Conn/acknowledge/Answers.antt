@@ -17,7 +17,8 @@ pub returns-in-Err-TooBig-clause-next : goal.returns-in-Err-TooBig-clause-next
 returns-in-Err-TooBig-clause-next g c = λ s p.
     let self = c.args.self.now in
     let big : limit_of self.size self.agreed < length (ack_body self.stream self.frame self.actions) = rw (← c.limit-limit.ensures, ← c.self.view_is) (c.in-Err-TooBig.ensures.too_big c.in-Err-TooBig.field-0-0 (rw c.in-Err-TooBig.field-0-is refl)) in
-    c.refuse.ensures.next s (too_big self s c.requires.at c.requires.done big p)
+    let left = too_big self s c.requires.at c.requires.done big p in
+    c.refuse.ensures.next s (rw (← c.self.view_is) at left)
 
 pub returns-in-Err-NoMemory-clause-next : goal.returns-in-Err-NoMemory-clause-next
-returns-in-Err-NoMemory-clause-next g c = λ s p. fallen c.args.self.now _ s (rw c.out_of_memory.ensures.next refl) (rw c.out_of_memory.ensures.next refl) (rw c.out_of_memory.ensures.next refl) c.out_of_memory.ensures.none p
+returns-in-Err-NoMemory-clause-next g c = λ s p. fallen c.args.self.now _ s (rw c.out_of_memory.ensures.next refl) (rw c.out_of_memory.ensures.next refl) (rw (c.out_of_memory.ensures.next, ← c.self.view_is) refl) (rw (← c.self.view_is) c.out_of_memory.ensures.none) p
