@@ -1,19 +1,10 @@
 -- The first item that passes a test, by its place.
-use Rattle.std.proofs.Common.{◌≡◌, ℕ, zero, suc, ◌+◌, ◌<◌, ◌≤◌, Bool, true, false, cond, List, [], ◌∷◌, length, slice_get, find, count_by, drop, not, Some, None, refl, sym, ap, ◌∙◌, inl, inr, arith}
-use Rattle.std.proofs.lemmas.Bool.{cases_lt}
+use Rattle.std.proofs.Common.{◌≡◌, ℕ, zero, suc, ◌+◌, ◌<◌, Bool, true, false, cond, List, [], ◌∷◌, length, slice_get, find, count_by, not, Some, None, refl, sym, ap, ◌∙◌, arith}
 use Rattle.std.proofs.lemmas.List.Recursion.{is_count_by}
 use Rattle.hall_core.specs.Rows.{without, changed}
 use Rattle.hall_core.specs.Found.{IsAt}
 
--- one item more is counted
-pub counted_on : (running next at before after all add : ℕ) → running ≤ at → running + before ≡ all → before ≡ add + after → next ≡ running + add → add ≤ 1 → (next ≤ at + 1) × (next + after ≡ all)
-counted_on running next at before after all add small so_far item is le = (omega arith, omega arith)
-
 module _ {A : Type 0} where
-  -- none of the first n passes
-  abbrev pub NoneOf : (A → Bool) → ℕ → List A → Type 0
-  NoneOf test n xs = (k : ℕ) (y : A) → k < n → slice_get xs k ≡ Some y → test y ≡ false
-
   pub first_at : (test : A → Bool) (xs : List A) (i : ℕ) (x : A) → slice_get xs i ≡ Some x → test x ≡ true → ((k : ℕ) (y : A) → k < i → slice_get xs k ≡ Some y → test y ≡ false) → IsAt test xs i x
   first_at test [] i x e t before = absurd (let k : None ≡ Some x = e in cc)
   first_at test (y ∷ ys) zero x e t before =
@@ -54,12 +45,6 @@ module _ {A : Type 0} where
       go true t rest = let f : Some x ≡ None = sym (ap (λ b. cond b (Some x) (find test xs)) t) ∙ e in cc
       go false t rest = ap (λ b. cond b xs (x ∷ without test xs)) t ∙ ap (λ l. x ∷ l) (rest (sym (ap (λ b. cond b (Some x) (find test xs)) t) ∙ e))
 
-  pub one_more : (test : A → Bool) (n : ℕ) (xs : List A) (x : A) → NoneOf test n xs → slice_get xs n ≡ Some x → test x ≡ false → NoneOf test (n + 1) xs
-  one_more test n xs x none at t k y lt e = elim (cases_lt k n) [
-    | inl less ↦ none k y less e
-    | inr ge ↦ (let same : k ≡ n = omega arith in let both : Some y ≡ Some x = sym e ∙ (ap (slice_get xs) same ∙ at) in let is : y ≡ x = cc in ap test is ∙ t)
-  ]
-
   -- how many pass, from item to item
   count : (A → Bool) → List A → ℕ
   count test [] = 0
@@ -68,16 +53,6 @@ module _ {A : Type 0} where
   count_is : (test : A → Bool) (xs : List A) → count test xs ≡ count_by test xs
   unfolding count
   count_is test xs = is_count_by (count test) test refl (λ x xs. refl) xs
-
-  dropped : (test : A → Bool) (xs : List A) (i : ℕ) (x : A) → slice_get xs i ≡ Some x → count test (drop i xs) ≡ cond (test x) 1 0 + count test (drop (suc i) xs)
-  unfolding count
-  dropped test [] i x e = absurd (let k : None ≡ Some x = e in cc)
-  dropped test (y ∷ ys) zero x e = let is : y ≡ x = (let k : Some y ≡ Some x = e in cc) in go (test y) refl (sym (ap test is))
-    where
-      go : (b : Bool) → test y ≡ b → test x ≡ test y → cond (test y) (1 + count test ys) (count test ys) ≡ cond (test x) 1 0 + count test ys
-      go true t u = let v : test x ≡ true = u ∙ t in rw (t, v) refl
-      go false t u = let v : test x ≡ false = u ∙ t in rw (t, v) (omega arith)
-  dropped test (y ∷ ys) (suc i) x e = dropped test ys i x e
 
   both : (test : A → Bool) (xs : List A) → count test xs + count (λ x. not (test x)) xs ≡ length xs
   unfolding count
@@ -88,9 +63,6 @@ module _ {A : Type 0} where
           → cond b (1 + count test xs) (count test xs) + cond (not b) (1 + count (λ x. not (test x)) xs) (count (λ x. not (test x)) xs) ≡ suc (length xs)
       go true r = omega arith
       go false r = omega arith
-
-  pub count_drop : (test : A → Bool) (xs : List A) (i : ℕ) (x : A) → slice_get xs i ≡ Some x → count_by test (drop i xs) ≡ cond (test x) 1 0 + count_by test (drop (i + 1) xs)
-  count_drop test xs i x e = let next : suc i ≡ i + 1 = omega arith in sym (count_is test (drop i xs)) ∙ (dropped test xs i x e ∙ ap (λ n. cond (test x) 1 0 + n) (count_is test (drop (suc i) xs) ∙ ap (λ n. count_by test (drop n xs)) next))
 
   pub count_both : (test : A → Bool) (xs : List A) → count_by test xs + count_by (λ x. not (test x)) xs ≡ length xs
   count_both test xs = let a = both test xs in let b = count_is test xs in let c = count_is (λ x. not (test x)) xs in omega arith

@@ -5,6 +5,7 @@ pub mod Step
 pub mod Acted
 pub mod Found
 pub mod Deadlines
+pub mod Keys
 pub mod Kept
 pub mod Promised
 pub mod Totals

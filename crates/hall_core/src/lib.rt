@@ -23,6 +23,7 @@ mod shard;
 // the table
 mod acts;
 mod hall;
+mod keys;
 mod laws;
 mod object;
 mod rows;

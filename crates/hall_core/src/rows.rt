@@ -1,5 +1,5 @@
 //! The rows, and what calls do to them alone.
-ghost use Rattle.std.specs.Prelude.{◌≡◌, ℕ, ◌+◌, ◌<◌, ◌≤◌, ◌++◌, ◌∷◌, [], IfOk, None, Some, count_by, length, not, remove, slice_get, true};
+ghost use Rattle.std.specs.Prelude.{◌≡◌, ℕ, ◌+◌, ◌<◌, ◌≤◌, ◌++◌, ◌∷◌, [], IfOk, None, Some, count_by, find, length, not, remove, slice_get, true};
 ghost use Rattle.hall_core.specs.Found.{IsFirst, UpTo};
 ghost use Rattle.hall_core.specs.Rows.{changed, without};
 ghost use Rattle.hall_core.specs.State.{IsQuiet, has_key, is_next, is_running, parked, runs, waits};
@@ -9,32 +9,40 @@ ghost use Rattle.hall_core.specs.declared.row.Stage.TheVariants.{Running};
 
 use crate::Key;
 use crate::calls::{Claim, Expiry};
+use crate::keys::KeyIndex;
 use crate::row::{Row, Stage};
-use crate::search::{count_running, first_waiting, first_with_key, place_of, place_of_running};
+use crate::search::{at_place, is_running, place_of_running};
 use due_index::DueIndex;
 use row_table::RowTable;
 use std::alloc::Global;
 use std::marker::Model;
 use waf_plain::NoMemory;
 
-/// The rows by place, with the deadlines of those that are parked.
+/// The rows by place, with the deadlines of those that are parked, and the places in the order of
+/// their keys.
 #[derive(Drop)]
 pub(crate) struct Rows<P> {
     table: RowTable<Row<P>>,
     due: DueIndex,
+    by_key: KeyIndex,
 }
 
 impl<P> Model for Rows<P> {
-    ghost use Rattle.std.specs.Prelude.{◌≡◌, length};
+    ghost use Rattle.std.specs.Prelude.{◌≡◌, ◌≤◌, count_by, is_some, length, not, vec_capacity};
     ghost use Rattle.row_table.specs.Table.{listed};
     ghost use Rattle.hall_core.specs.Deadlines.{Held, deadlines};
     ghost use Rattle.hall_core.specs.Found.{Ascending};
+    ghost use Rattle.hall_core.specs.Keys.{IsByKey, key_at};
+    ghost use Rattle.hall_core.specs.State.{is_running};
 
     ghost Value = { Held P };
 
     ghost view = { λ r. record { capacity = length r.table.rows; rows = listed r.table } };
 
-    ghost invariant = { λ r. (r.due ≡ deadlines r.table.rows) × Ascending (listed r.table) };
+    ghost invariant = { λ r. (r.due ≡ deadlines r.table.rows) × Ascending (listed r.table)
+        × IsByKey (key_at r.table.rows) r.by_key.places.items
+        × (length r.by_key.places.items ≡ length (listed r.table)) × (length r.table.rows ≤ vec_capacity r.by_key.places)
+        × (count_by is_some r.due ≡ count_by (λ row. not (is_running row.stage)) (listed r.table)) };
 }
 
 impl<P> Rows<P> {
@@ -42,8 +50,9 @@ impl<P> Rows<P> {
         ensures { IfOk result (λ rows. (rows.capacity ≡ capacity) × (rows.rows ≡ [])) }
     {
         let due = DueIndex::new(alloc, capacity)?;
+        let by_key = KeyIndex::new(alloc, capacity)?;
         let table = RowTable::new(alloc, capacity)?;
-        Ok(Rows { table, due })
+        Ok(Rows { table, due, by_key })
     }
 
     pub(crate) fn len(&self) -> u32
@@ -65,18 +74,25 @@ impl<P> Rows<P> {
     pub(crate) fn place_of_key(&self, key: &Key) -> Option<u32>
         ensures { IsFirst (has_key key.now) self.now.rows result }
     {
-        first_with_key(&self.table, key)
+        let Some(place) = self.by_key.find(&self.table, key) else {
+            return None;
+        };
+        Some(at_place(&self.table, place))
     }
 
-    /// Adds a row that is running.
+    /// Adds a row that is running, under a key that no row has.
     pub(crate) fn enter(&mut self, key: Key, number: u64)
         requires room { length self.old.rows < self.old.capacity }
+        requires free { find (has_key key) self.old.rows ≡ None }
         requires last { (before : ℕ) × (before < number) × UpTo before self.old.rows }
         ensures capacity { self.new.capacity ≡ self.old.capacity }
         ensures rows { self.new.rows ≡ self.old.rows ++ (record { key = key; number = number; stage = Running }) ∷ [] }
     {
+        self.table.each_row_is_listed();
+        let at = self.by_key.gap(&self.table, &key);
         let stage = Stage::Running;
-        self.table.enter(Row { key, number, stage });
+        let place = self.table.enter(Row { key, number, stage });
+        self.by_key.insert(at, place);
     }
 
     fn take(&mut self, at: u32) -> Row<P>
@@ -85,7 +101,9 @@ impl<P> Rows<P> {
         ensures capacity { self.new.capacity ≡ self.old.capacity }
         ensures rows { self.new.rows ≡ remove self.old.rows at }
     {
-        self.due.remove(self.table.place(at));
+        let place = self.table.place(at);
+        self.by_key.remove(self.by_key.position(&self.table, place));
+        self.due.remove(place);
         self.table.take(at)
     }
 
@@ -117,7 +135,7 @@ impl<P> Rows<P> {
         ensures capacity { self.new.capacity ≡ self.old.capacity }
         ensures rows { self.new.rows ≡ without (waits key.now) self.old.rows }
     {
-        let Some(at) = first_waiting(&self.table, key) else {
+        let Some(at) = self.place_waiting(key) else {
             return Claim::NotParked;
         };
         let Row { number, stage, .. } = self.take(at);
@@ -161,17 +179,26 @@ impl<P> Rows<P> {
         if now < deadline {
             return None;
         }
-        let number = self.table.row(place).number;
-        match place_of(&self.table, number) {
-            Some(at) => Some(at),
-            None => unreachable!(),
+        Some(at_place(&self.table, place))
+    }
+
+    // Where the row stands that waits under a key.
+    fn place_waiting(&self, key: &Key) -> Option<u32>
+        ensures { IsFirst (waits key.now) self.now.rows result }
+    {
+        let Some(at) = self.place_of_key(key) else {
+            return None;
+        };
+        if is_running(&self.table.get(at).stage) {
+            return None;
         }
+        Some(at)
     }
 
     pub(crate) fn count_running(&self) -> u32
         ensures { result ≡ count_by (λ row. is_running row.stage) self.now.rows }
     {
-        count_running(&self.table)
+        self.table.len() - self.due.len()
     }
 }
 

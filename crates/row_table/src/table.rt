@@ -73,6 +73,13 @@ impl<T> RowTable<T> {
         }
     }
 
+    /// Each row at a place stands in the list. It does nothing.
+    pub fn each_row_is_listed(&self)
+        ensures { (place : ℕ) (x : T) → row_at self.now.rows place ≡ Some x → (at : ℕ) × (slice_get (listed self.now) at ≡ Some x) }
+    {
+        let _rows = &self.rows;
+    }
+
     /// Puts a row at a free place, after all others in the list, and gives the place.
     pub fn enter(&mut self, row: T) -> u32
         requires { length (listed self.old) < length self.old.rows }

@@ -1,8 +1,7 @@
-use Rattle.std.proofs.Common.{subst, arith}
-use Rattle.row_table.specs.Table.{listed}
+use Rattle.std.proofs.Common.{◌∙◌, refl, subst, arith}
 use Rattle.due_index.specs.Due as index
 use Rattle.hall_core.specs.State.{IsQuiet, is_next}
-use Rattle.hall_core.specs.Found.{IsFirstAt, IsSought}
+use Rattle.hall_core.specs.Found.{IsFirstAt}
 use Rattle.hall_core.proofs.Deadlines.{least_row, next_at, next_none, quiet_late, quiet_none}
 use Rattle.hall_core.proofs.rows.Rows.place_of_next.Goals as goal
 
@@ -26,14 +25,16 @@ returns-then-now-deadline-clause-quiet g c z =
     let q = quiet_late c.self.inside.table c.self.inside.due c.self.invariant.0 c.args.now (c.in-Some.deadline, c.in-Some.field-0-1, c.in-Some.place) (subst (λ o. index.IsLeast c.self.inside.due o) c.in-Some.is c.least.ensures) (let t = c.if-now-deadline.true in omega arith) in
     subst (λ v. IsQuiet v.rows c.args.now) c.self.view_is q
 
-pub row-requires : goal.row-requires
-row-requires g c =
+pub at_place-requires-clause-held : goal.at_place-requires-clause-held
+at_place-requires-clause-held g c =
     let w = least_row c.self.inside.table c.self.inside.due c.self.invariant.0 (c.in-Some.deadline, c.in-Some.field-0-1, c.in-Some.place) (subst (λ o. index.IsLeast c.self.inside.due o) c.in-Some.is c.least.ensures) in
     (w.0, w.1)
 
 pub returns-clause-place : goal.returns-clause-place
 returns-clause-place g c =
-    let s = subst (λ o. IsSought (listed c.self.inside.table) c.row.result.now.number o) c.in-Some-place_of.is c.place_of.ensures in
-    let h = next_at c.self.inside.table c.self.inside.due c.self.invariant.0 c.args.now (c.in-Some.deadline, c.in-Some.field-0-1, c.in-Some.place) c.row.result.now s.0 c.in-Some-place_of.at c.row.ensures.listed.0
-    c.self.invariant.1 (subst (λ o. index.IsLeast c.self.inside.due o) c.in-Some.is c.least.ensures) (let f = c.if-now-deadline.false in omega arith) c.row.ensures.row c.row.ensures.listed.1 s.1 s.2 in
-    subst (λ v. IsFirstAt (is_next c.args.now v.rows) v.rows c.in-Some-place_of.at) c.self.view_is (s.0, h)
+    let least = subst (λ o. index.IsLeast c.self.inside.due o) c.in-Some.is c.least.ensures in
+    let w = least_row c.self.inside.table c.self.inside.due c.self.invariant.0 (c.in-Some.deadline, c.in-Some.field-0-1, c.in-Some.place) least in
+    let at = c.at_place.ensures ∙ w.1 in
+    let h = next_at c.self.inside.table c.self.inside.due c.self.invariant.0 c.args.now (c.in-Some.deadline, c.in-Some.field-0-1, c.in-Some.place) w.0 w.0 c.at_place.result c.at_place.result
+    c.self.invariant.1 least (let f = c.if-now-deadline.false in omega arith) w.1 at at refl in
+    subst (λ v. IsFirstAt (is_next c.args.now v.rows) v.rows c.at_place.result) c.self.view_is (w.0, h)
