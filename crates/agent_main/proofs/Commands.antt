@@ -33,6 +33,7 @@ ran_out content c a = record {
   untouched = λ is. refl;
   unread = λ is other. refl;
   once_alone = λ is. absurd (cc is);
+  no_door = λ is. cc is;
   read_fault = λ is. absurd (cc is);
   write_fault = λ is. absurd (cc is);
 }

@@ -1,5 +1,5 @@
 -- What each command does, in the terms of its own definition.
-use Rattle.std.specs.Prelude.{◌≡◌, ◌⊎◌, ℕ, List, Bool, true, false, Option, Ok, Err, IfSome}
+use Rattle.std.specs.Prelude.{◌≡◌, ◌≢◌, ◌⊎◌, ℕ, List, Bool, true, false, Option, Ok, Err, IfSome}
 use Rattle.waf_io.specs.Counts.{Rose}
 use Rattle.sec_ast.specs.declared.listing.Listing.{Listing}
 use Rattle.sec_read.specs.FileWords.{Named}
@@ -8,7 +8,7 @@ use Rattle.agent_conf.specs.Loading.{loaded}
 use Rattle.command_line.specs.declared.command.Command as command
 use Rattle.command_line.specs.declared.command.Command.TheVariants as commands
 use Rattle.reports.specs.Report.{Answers, FilesFailFirst, Prints, ReadFails, Says}
-use Rattle.reports.specs.declared.exit_status.TheConstants.{DONE, OTHER_WORDS, READ_FAULT, REFUSED, UNFINISHED, WRITE_FAULT}
+use Rattle.reports.specs.declared.exit_status.TheConstants.{DONE, DOOR_FAULT, OTHER_WORDS, READ_FAULT, REFUSED, UNFINISHED, WRITE_FAULT}
 use Rattle.agent_main.specs.declared.words.TheConstants.{HELP, USAGE, VERSION}
 use Rattle.agent_main.specs.Check.{checked}
 use Rattle.agent_main.specs.Generate.{Generated}
@@ -72,5 +72,6 @@ pub record Ran (content : Option Named) (c : command.Command) (result : ℕ) (a 
   pub unread : result ≡ REFUSED → refuses_input c ≡ false → b.left ≡ a.left
   -- causes, whatever is told
   pub once_alone : result ≡ UNFINISHED → serves_connection c ≡ true
+  pub no_door : result ≢ DOOR_FAULT
   pub read_fault : result ≡ READ_FAULT → Rose a.file_faults b.file_faults ⊎ Rose a.read_faults b.read_faults
   pub write_fault : result ≡ WRITE_FAULT → Rose a.write_faults b.write_faults

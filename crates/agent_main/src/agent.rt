@@ -58,8 +58,8 @@ where
     ensures read_fault { result ≡ statuses.READ_FAULT
         → Rose (F.faults files.old) (F.faults files.new) ⊎ Rose (S.faults input.old) (S.faults input.new) }
     ensures write_fault { result ≡ statuses.WRITE_FAULT → Rose (K.faults output.old) (K.faults output.new) }
-    ensures door_fault { serves_doors (command_of words) ≡ true → result ≡ statuses.DOOR_FAULT
-        → Rose (D.faults doors.old) (D.faults doors.new) }
+    ensures door_fault { result ≡ statuses.DOOR_FAULT
+        → (serves_doors (command_of words) ≡ true) × Rose (D.faults doors.old) (D.faults doors.new) }
 {
     match read_words(alloc, words.as_slice()) {
         Ok(command) => perform(rt, alloc, command, files, input, output, doors, clock, gate),
@@ -105,8 +105,8 @@ where
     ensures read_fault { result ≡ statuses.READ_FAULT
         → Rose (F.faults files.old) (F.faults files.new) ⊎ Rose (S.faults input.old) (S.faults input.new) }
     ensures write_fault { result ≡ statuses.WRITE_FAULT → Rose (K.faults output.old) (K.faults output.new) }
-    ensures door_fault { serves_doors command ≡ true → result ≡ statuses.DOOR_FAULT
-        → Rose (D.faults doors.old) (D.faults doors.new) }
+    ensures door_fault { result ≡ statuses.DOOR_FAULT
+        → (serves_doors command ≡ true) × Rose (D.faults doors.old) (D.faults doors.new) }
 {
     match conf_to_serve(command) {
         Ok(name) => serve(

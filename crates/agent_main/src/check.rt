@@ -2,7 +2,7 @@ ghost use Rattle.std.specs.Prelude.{◌≡◌, ◌≢◌, ◌++◌, Err, IfOk, I
 ghost use Rattle.std.specs.Arc.{arc_value};
 ghost use Rattle.waf_io.specs.Counts.{Rose};
 ghost use Rattle.agent_conf.specs.Seen.{app_seen};
-ghost use Rattle.reports.specs.declared.exit_status.TheConstants.{OTHER_WORDS, READ_FAULT, UNFINISHED, WRITE_FAULT};
+ghost use Rattle.reports.specs.declared.exit_status.TheConstants.{DOOR_FAULT, OTHER_WORDS, READ_FAULT, UNFINISHED, WRITE_FAULT};
 ghost use Rattle.reports.specs.declared.faults.CommandFault.TheVariants as faults;
 ghost use Rattle.agent_main.specs.Check.{app_text, apps_text, checked};
 ghost use Rattle.reports.specs.CommandFaults.{Tells};
@@ -21,7 +21,7 @@ use waf_plain::{Bytes, NoMemory};
 
 // Prints the listing of each application of the configuration under that name.
 pub fn check<F: Files, K: Sink>(alloc: Global, name: &[u8], files: &mut F, output: &mut K) -> u8
-    ensures other { (result ≢ UNFINISHED) × (result ≢ OTHER_WORDS) }
+    ensures other { (result ≢ UNFINISHED) × (result ≢ OTHER_WORDS) × (result ≢ DOOR_FAULT) }
     ensures checked { IfSome (F.content files.old) (λ told. Answers result (checked told name.now)
         (F.faults files.old) (F.faults files.new) (K.held output.old) (K.held output.new)) }
     ensures read_fault { result ≡ READ_FAULT → Rose (F.faults files.old) (F.faults files.new) }

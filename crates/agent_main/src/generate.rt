@@ -1,7 +1,7 @@
 ghost use Rattle.std.specs.Prelude.{◌≡◌, ◌≢◌, Err, IfOk, Ok};
 ghost use Rattle.waf_io.specs.Counts.{Rose};
 ghost use Rattle.reports.specs.declared.faults.CommandFault.TheVariants as faults;
-ghost use Rattle.reports.specs.declared.exit_status.TheConstants.{OTHER_WORDS, READ_FAULT, UNFINISHED, WRITE_FAULT};
+ghost use Rattle.reports.specs.declared.exit_status.TheConstants.{DOOR_FAULT, OTHER_WORDS, READ_FAULT, UNFINISHED, WRITE_FAULT};
 ghost use Rattle.agent_main.specs.Generate.{AreOnly, Generated, TellsCounts, built_in_files, limits};
 
 use crate::listings::rules_of;
@@ -34,7 +34,7 @@ pub const PASSED_RULE: u32 = 8;
 
 // Prints the counts of a run over the script that is made of a seed, over so many transactions.
 pub fn generate<K: Sink>(alloc: Global, seed: u64, count: u32, output: &mut K) -> u8
-    ensures other { (result ≢ UNFINISHED) × (result ≢ OTHER_WORDS) × (result ≢ READ_FAULT) }
+    ensures other { (result ≢ UNFINISHED) × (result ≢ OTHER_WORDS) × (result ≢ READ_FAULT) × (result ≢ DOOR_FAULT) }
     ensures generated { Generated result seed count (K.held output.old) (K.held output.new) }
     ensures write_fault { result ≡ WRITE_FAULT → Rose (K.faults output.old) (K.faults output.new) }
 {

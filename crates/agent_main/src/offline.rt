@@ -1,4 +1,4 @@
-ghost use Rattle.std.specs.Prelude.{◌≡◌, ◌⊎◌, Bool, Err, IfSome, List, Ok, false, true, ℕ};
+ghost use Rattle.std.specs.Prelude.{◌≡◌, ◌≢◌, ◌⊎◌, Bool, Err, IfSome, List, Ok, false, true, ℕ};
 ghost use Rattle.waf_io.specs.Counts.{Rose};
 ghost use Rattle.agent_conf.specs.declared.load_fault.LoadFault.{LoadFault};
 ghost use Rattle.agent_conf.specs.Loading.{loaded};
@@ -9,7 +9,7 @@ ghost use Rattle.agent_main.specs.Replay.{Replayed};
 ghost use Rattle.reports.specs.Report.{Answers, FilesFailFirst, Prints, ReadFails, Says};
 ghost use Rattle.sec_ast.specs.declared.listing.Listing.{Listing};
 ghost use Rattle.agent_main.specs.Run.{Exits};
-ghost use Rattle.reports.specs.declared.exit_status.TheConstants.{DONE, OTHER_WORDS, READ_FAULT, REFUSED, UNFINISHED, WRITE_FAULT};
+ghost use Rattle.reports.specs.declared.exit_status.TheConstants.{DONE, DOOR_FAULT, OTHER_WORDS, READ_FAULT, REFUSED, UNFINISHED, WRITE_FAULT};
 ghost use Rattle.command_line.specs.Words.{command_of};
 ghost use Rattle.agent_main.specs.Commands.{Ran, around};
 ghost use Rattle.agent_main.specs.declared.words.TheConstants.{HELP, USAGE, VERSION};
@@ -124,6 +124,7 @@ pub fn run<F: Files, S: Source, K: Sink>(
 
     // Causes, whatever is told
     ensures once_alone { result ≡ UNFINISHED → serves_connection command ≡ true }
+    ensures no_door { result ≢ DOOR_FAULT }
     ensures read_fault { result ≡ READ_FAULT
         → Rose (F.faults files.old) (F.faults files.new) ⊎ Rose (S.faults input.old) (S.faults input.new) }
     ensures write_fault { result ≡ WRITE_FAULT → Rose (K.faults output.old) (K.faults output.new) }

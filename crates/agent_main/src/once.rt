@@ -3,7 +3,7 @@ ghost use Rattle.waf_io.specs.Counts.{Rose};
 ghost use Rattle.agent_main.specs.Listings.{listing_under};
 ghost use Rattle.reports.specs.Report.{FilesFailFirst, Prints};
 ghost use Rattle.agent_main.specs.Run.{Exits, status_of};
-ghost use Rattle.reports.specs.declared.exit_status.TheConstants.{OTHER_WORDS, READ_FAULT, REFUSED, WRITE_FAULT};
+ghost use Rattle.reports.specs.declared.exit_status.TheConstants.{DOOR_FAULT, OTHER_WORDS, READ_FAULT, REFUSED, WRITE_FAULT};
 ghost use Rattle.sec_ast.specs.declared.listing.Listing.{Listing};
 
 use crate::judge::OnceHost;
@@ -29,7 +29,7 @@ pub fn once<F: Files, S: Source, K: Sink>(
     input: &mut S,
     output: &mut K,
 ) -> u8
-    ensures other { result ≢ OTHER_WORDS }
+    ensures other { (result ≢ OTHER_WORDS) × (result ≢ DOOR_FAULT) }
     ensures refused { IfSome (F.content files.old) (λ told. (line : List ℕ) → listing_under told name.now ≡ Err line
         → Prints result REFUSED line
         (F.faults files.old) (F.faults files.new) (K.held output.old) (K.held output.new)
@@ -54,7 +54,7 @@ pub fn once<F: Files, S: Source, K: Sink>(
 
 // Serves the input by these rules.
 fn under<S: Source, K: Sink>(alloc: Global, rules: Ruleset, input: &mut S, output: &mut K) -> u8
-    ensures other { (result ≢ OTHER_WORDS) × (result ≢ REFUSED) }
+    ensures other { (result ≢ OTHER_WORDS) × (result ≢ REFUSED) × (result ≢ DOOR_FAULT) }
     ensures served { Exits result rules (S.left input.old) (S.left input.new) (S.ends input.old) (S.ends input.new)
         (K.held output.old) (K.held output.new) }
     ensures read_fault { result ≡ READ_FAULT → Rose (S.faults input.old) (S.faults input.new) }

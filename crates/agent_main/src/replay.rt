@@ -3,7 +3,7 @@ ghost use Rattle.replay_text.specs.Playable.{IsPlayable};
 ghost use Rattle.waf_io.specs.Counts.{Rose};
 ghost use Rattle.agent_conf.specs.declared.load_fault.LoadFault.{LoadFault};
 ghost use Rattle.agent_conf.specs.Loading.{loaded};
-ghost use Rattle.reports.specs.declared.exit_status.TheConstants.{OTHER_WORDS, READ_FAULT, UNFINISHED, WRITE_FAULT};
+ghost use Rattle.reports.specs.declared.exit_status.TheConstants.{DOOR_FAULT, OTHER_WORDS, READ_FAULT, UNFINISHED, WRITE_FAULT};
 ghost use Rattle.reports.specs.declared.faults.CommandFault.TheVariants as faults;
 ghost use Rattle.agent_main.specs.Playing.{TellsText};
 ghost use Rattle.agent_main.specs.Replay.{Replayed};
@@ -33,7 +33,7 @@ pub fn replay<F: Files, S: Source, K: Sink>(
     input: &mut S,
     output: &mut K,
 ) -> u8
-    ensures other { (result ≢ UNFINISHED) × (result ≢ OTHER_WORDS) }
+    ensures other { (result ≢ UNFINISHED) × (result ≢ OTHER_WORDS) × (result ≢ DOOR_FAULT) }
     ensures replayed { IfSome (S.left input.old) (λ text.
         Replayed (F.content files.old) name.now (F.faults files.old) (F.faults files.new) result text
         (K.held output.old) (K.held output.new)

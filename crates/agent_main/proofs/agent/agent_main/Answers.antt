@@ -1,4 +1,4 @@
-use Rattle.std.proofs.Common.{rules, ◌≡◌, ◌∙◌, ap}
+use Rattle.std.proofs.Common.{rules, ◌≡◌, ◌∙◌, ap, sym}
 use Rattle.command_line.specs.Words.{command_of}
 use Rattle.agent_main.specs.Words.{serves_doors}
 use Rattle.agent_main.proofs.Commands.{ran_as, ran_out, told_weaker}
@@ -11,7 +11,7 @@ returns-in-Ok g c = let same : c.in-Ok.command ≡ command_of c.args.words = sea
   out = c.perform.ensures.out;
   read_fault = c.perform.ensures.read_fault;
   write_fault = c.perform.ensures.write_fault;
-  door_fault = λ is fails. c.perform.ensures.door_fault (ap serves_doors same ∙ is) fails;
+  door_fault = λ fails. (let f = c.perform.ensures.door_fault fails in (ap serves_doors (sym same) ∙ f.0, f.1));
 }
 
 pub returns-clause-offline : goal.returns-clause-offline

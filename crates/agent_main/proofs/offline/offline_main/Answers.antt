@@ -17,6 +17,7 @@ returns-in-Ok g c = ran_as _ _ _ _ _ _ (search rules) (record {
   untouched = c.run.ensures.untouched;
   unread = c.run.ensures.unread;
   once_alone = c.run.ensures.once_alone;
+  no_door = c.run.ensures.no_door;
   read_fault = c.run.ensures.read_fault;
   write_fault = c.run.ensures.write_fault;
 })
