@@ -107,7 +107,16 @@ pub fn run<R: Threads + Wait + Sync>(
         passes,
         &|pass: HallPass<u64>| -> u64
             requires { IsPassOfHall shared.now pass }
-        { go_round(rt, alloc, shared, pass, started.fetch_add(1, Ordering::Relaxed), rounds) },
+        {
+            go_round(
+                rt,
+                alloc,
+                shared,
+                pass,
+                started.fetch_add(1, Ordering::Relaxed),
+                rounds,
+            )
+        },
     )?;
     Ok(found)
 }
@@ -203,7 +212,8 @@ pub fn go_round<R: Wait>(
     let mut pass = pass;
     let mut found = 0u64;
     for round in 0..rounds {
-        let (Ok(entered), Ok(claimed)) = (key(alloc, number, round), key(alloc, number, round)) else {
+        let (Ok(entered), Ok(claimed)) = (key(alloc, number, round), key(alloc, number, round))
+        else {
             return found;
         };
         if one_round(rt, hall, &mut pass, entered, claimed, round) {

@@ -1,5 +1,5 @@
 // The table of transactions, as one thread calls it.
-use hall_core::{Call, Claim, Entry, Expiry, Hall, Key, Reply};
+use hall_core::{Call, Claim, Entry, Expiry, Hall, Key, Reply, shard_of};
 use std::alloc::Global;
 use std::test::Fail;
 use waf_plain::{Bytes, NoMemory};
@@ -104,5 +104,21 @@ fn the_least_deadline_first(rt: HostRuntime) -> Result<(), Fail> {
     assert_eq!(rt; expires(&mut hall, 60), Some((2, 20)));
     assert_eq!(rt; expires(&mut hall, 60), Some((1, 10)));
     assert_eq!(rt; counts(&mut hall), (0, 0));
+    Ok(())
+}
+
+// The shard of a key, of four.
+fn shard(alloc: Global, app: &[u8], id: &[u8]) -> Result<u32, NoMemory> {
+    let app = Bytes::copy(alloc, app)?;
+    let id = Bytes::copy(alloc, id)?;
+    Ok(shard_of(&Key { app, id }, 4))
+}
+
+#[test]
+fn keys_have_their_shards(rt: HostRuntime) -> Result<(), Fail> {
+    let alloc = rt.alloc();
+    assert_eq!(rt; shard(alloc, b"", b"a1")?, 2);
+    assert_eq!(rt; shard(alloc, b"", b"a2")?, 3);
+    assert_eq!(rt; shard(alloc, b"x", b"a1")?, 2);
     Ok(())
 }
